@@ -1,0 +1,2 @@
+mod Packing
+mod Blocks

@@ -1,0 +1,58 @@
+use borrow.Author.Needs.{needs}
+use mathlib.Core.Bool.{cond}
+use mathlib.Core.List.{List, [], _∷_, _++_}
+use mathlib.Core.Path.{_≡_, refl, sym, ap, _∙_}
+use native.Mathlib.Omega.{arith}
+use Prim.Native.Nat.{ℕ, _+_, _<_, _≤_}
+use lib.ListN.{length, length-append, set, getD}
+use mir.Syntax.{w8}
+use mir.Val.{ofZ}
+use Rattle.std.proofs.shelf.Signed.{toZ-ofZ}
+use Rattle.octets.specs.Buffers.{over}
+use Rattle.octets.proofs.Rooms.{fitting-room, fitting-none, placed-room, placed-none}
+use Rattle.std.specs.declared.option.Option.the-variants.{Some}
+use Rattle.kinds.specs.Meaning.{Meaning, Lawful}
+use Rattle.channels.specs.declared.reading.Reading.{Reading}
+use Rattle.channels.specs.declared.reading.Reading.the-variants.{Value, Below, Above, NoData}
+use Rattle.channels.specs.Readings.{shown, block, scale-octet}
+use Rattle.channels.proofs.Blocks.{two-behind}
+use Rattle.channels.proofs.reading.Reading.show.Needs as need
+
+shown-wide : {V : Type 0} (m : Meaning V) (l : Lawful V m) (r : Reading V) → length (shown m r) ≡ m .width
+shown-wide m l (Value v) = l .octets-wide v
+shown-wide m l Below = l .below-wide
+shown-wide m l Above = l .above-wide
+shown-wide m l NoData = l .no-data-wide
+
+block-long : {V : Type 0} (m : Meaning V) (l : Lawful V m) (r : Reading V) (a b : ℕ) → length (block m r a b) ≡ m .width + 2
+block-long m l r a b = length-append (shown m r) (a ∷ b ∷ []) ∙ ap (λ n. n + 2) (shown-wide m l r)
+
+pub returns-then-out-width : need.returns-then-out-width
+returns-then-out-width g c =
+    let bs = block (g .K·Kind .meaning) (c .args .self) (scale-octet (c .args .scale)) (c .args .signals) in
+    let e = block-long (g .K·Kind .meaning) (g .K·Kind·met .lawful) (c .args .self) (scale-octet (c .args .scale)) (c .args .signals) in
+    let h : length (c .args .out .now) < length bs = omega (arith, e, c .width-width .ensures) in
+    record { answer = fitting-none bs (c .args .out .now) h; buffer = placed-none bs (c .args .out .now) h }
+
+pub returns : need.returns
+returns g c =
+    let m = g .K·Kind .meaning in
+    let l = g .K·Kind·met .lawful in
+    let out = c .args .out .now in
+    let ws = shown m (c .args .self) in
+    let a = scale-octet (c .args .scale) in
+    let b = c .args .signals in
+    let bs = block m (c .args .self) a b in
+    let e = block-long m l (c .args .self) a b in
+    let h : length bs ≤ length out = omega (arith, e, c .width-width .ensures) in
+    let k : length ws ≤ length out = omega (arith, shown-wide m l (c .args .self), c .width-width .ensures) in
+    let n : c .width-width .result + 2 ≤ length out = omega arith in
+    let w : length ws ≡ c .width-width .result = shown-wide m l (c .args .self) ∙ sym (c .width-width .ensures) in
+    record {
+      answer = ap Some (ap (λ n. n + 2) (c .width-width .ensures) ∙ sym e) ∙ fitting-room bs out h;
+      buffer =
+          (λ i. set (set ((c .write .ensures .buffer ∙ sym (placed-room ws out k)) i) (c .width-width .result) (ap (λ xs. getD xs 0 0) (c .to-be-bytes .ensures) i)) (c .width-width .result + 1) b)
+          ∙ ap (λ z. set (set (over ws out) (c .width-width .result) (ofZ w8 z)) (c .width-width .result + 1) b) (toZ-ofZ w8 (c .args .scale) (c .fits .scale))
+          ∙ two-behind ws out (c .width-width .result) a b w n
+          ∙ placed-room bs out h;
+    }

@@ -1,0 +1,33 @@
+-- Readings, and how they are shown.
+use mathlib.Core.Bool.{Bool, true, false, cond}
+use mathlib.Core.List.{List, [], _∷_, _++_}
+use Prim.Native.Nat.{ℕ}
+use lib.IntN.{ℤ}
+use mir.Syntax.{w8}
+use mir.Val.{ofZ}
+use Rattle.kinds.specs.Meaning.{Meaning, under}
+use Rattle.channels.specs.declared.reading.Reading.{Reading}
+use Rattle.channels.specs.declared.reading.Reading.the-variants.{Value, Below, Above, NoData}
+
+-- the scale's octet, in two's complement
+abbrev pub scale-octet : ℤ → ℕ
+scale-octet scale = ofZ w8 scale
+
+module _ {V : Type 0} (m : Meaning V) where
+  -- a value under the range counts as Below, over it as Above
+  abbrev pub counted : V → V → Reading V → Reading V
+  counted low high (Value v) = cond (under m v low) Below (cond (under m high v) Above (Value v))
+  counted low high Below = Below
+  counted low high Above = Above
+  counted low high NoData = NoData
+
+  -- the octets of a value, or of what stands in its place
+  abbrev pub shown : Reading V → List ℕ
+  shown (Value v) = m .octets v
+  shown Below = m .below-substitute
+  shown Above = m .above-substitute
+  shown NoData = m .no-data-substitute
+
+  -- process data: the value, the scale octet, the octet of signals
+  abbrev pub block : Reading V → ℕ → ℕ → List ℕ
+  block r scale signals = shown r ++ (scale ∷ signals ∷ [])
