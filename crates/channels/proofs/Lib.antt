@@ -1,2 +1,2 @@
 mod Packing
-mod Blocks
+pub mod Blocks

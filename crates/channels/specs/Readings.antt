@@ -1,7 +1,7 @@
 -- Readings, and how they are shown.
 use mathlib.Core.Bool.{Bool, true, false, cond}
 use mathlib.Core.List.{List, [], _∷_, _++_}
-use Prim.Native.Nat.{ℕ}
+use Prim.Native.Nat.{ℕ, _+_}
 use lib.IntN.{ℤ}
 use mir.Syntax.{w8}
 use mir.Val.{ofZ}
@@ -31,3 +31,7 @@ module _ {V : Type 0} (m : Meaning V) where
   -- process data: the value, the scale octet, the octet of signals
   abbrev pub block : Reading V → ℕ → ℕ → List ℕ
   block r scale signals = shown r ++ (scale ∷ signals ∷ [])
+
+  -- two octets more than a value has
+  abbrev pub block-length : ℕ
+  block-length = m .width + 2

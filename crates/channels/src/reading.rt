@@ -1,5 +1,5 @@
 // A reading of the sensor: a value, or why there is none.
-ghost use Rattle.channels.specs.Readings.{block, counted, scale-octet, shown};
+ghost use Rattle.channels.specs.Readings.{block, block-length, counted, scale-octet, shown};
 ghost use Rattle.octets.specs.Buffers.{fitting, placed};
 ghost use mathlib.Core.Path.{_≡_};
 use kinds::kind::Kind;
@@ -11,6 +11,13 @@ pub enum Reading<T> {
     Below,
     Above,
     NoData,
+}
+
+// How many octets process data has.
+pub fn block_length<K: Kind>() -> usize
+    ensures { λ r. ⌜ r ≡ block-length {V = K} meaning ⌝ }
+{
+    K::width() + 2
 }
 
 impl<K: Kind> Reading<K> {
@@ -53,7 +60,7 @@ impl<K: Kind> Reading<K> {
         ensures buffer { λ _. ⌜ now (out .exit) ≡ placed (block meaning self (scale-octet scale) signals) (now (out .entry)) ⌝ }
     {
         let width = K::width();
-        if out.len() < width + 2 {
+        if out.len() < block_length::<K>() {
             return None;
         }
         let _ = self.write(out);

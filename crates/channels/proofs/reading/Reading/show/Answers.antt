@@ -11,27 +11,15 @@ use Rattle.std.proofs.shelf.Signed.{toZ-ofZ}
 use Rattle.octets.specs.Buffers.{over}
 use Rattle.octets.proofs.Rooms.{fitting-room, fitting-none, placed-room, placed-none}
 use Rattle.std.specs.declared.option.Option.the-variants.{Some}
-use Rattle.kinds.specs.Meaning.{Meaning, Lawful}
-use Rattle.channels.specs.declared.reading.Reading.{Reading}
-use Rattle.channels.specs.declared.reading.Reading.the-variants.{Value, Below, Above, NoData}
 use Rattle.channels.specs.Readings.{shown, block, scale-octet}
-use Rattle.channels.proofs.Blocks.{two-behind}
+use Rattle.channels.proofs.Blocks.{block-long, shown-wide, two-behind}
 use Rattle.channels.proofs.reading.Reading.show.Needs as need
 
-shown-wide : {V : Type 0} (m : Meaning V) (l : Lawful V m) (r : Reading V) → length (shown m r) ≡ m .width
-shown-wide m l (Value v) = l .octets-wide v
-shown-wide m l Below = l .below-wide
-shown-wide m l Above = l .above-wide
-shown-wide m l NoData = l .no-data-wide
-
-block-long : {V : Type 0} (m : Meaning V) (l : Lawful V m) (r : Reading V) (a b : ℕ) → length (block m r a b) ≡ m .width + 2
-block-long m l r a b = length-append (shown m r) (a ∷ b ∷ []) ∙ ap (λ n. n + 2) (shown-wide m l r)
-
-pub returns-then-out-width : need.returns-then-out-width
-returns-then-out-width g c =
+pub returns-then-out-block-length : need.returns-then-out-block-length
+returns-then-out-block-length g c =
     let bs = block (g .K·Kind .meaning) (c .args .self) (scale-octet (c .args .scale)) (c .args .signals) in
     let e = block-long (g .K·Kind .meaning) (g .K·Kind·met .lawful) (c .args .self) (scale-octet (c .args .scale)) (c .args .signals) in
-    let h : length (c .args .out .now) < length bs = omega (arith, e, c .width-width .ensures) in
+    let h : length (c .args .out .now) < length bs = omega (arith, e, c .width-width .ensures, c .block-length .ensures) in
     record { answer = fitting-none bs (c .args .out .now) h; buffer = placed-none bs (c .args .out .now) h }
 
 pub returns : need.returns
@@ -44,9 +32,9 @@ returns g c =
     let b = c .args .signals in
     let bs = block m (c .args .self) a b in
     let e = block-long m l (c .args .self) a b in
-    let h : length bs ≤ length out = omega (arith, e, c .width-width .ensures) in
-    let k : length ws ≤ length out = omega (arith, shown-wide m l (c .args .self), c .width-width .ensures) in
-    let n : c .width-width .result + 2 ≤ length out = omega arith in
+    let h : length bs ≤ length out = omega (arith, e, c .width-width .ensures, c .block-length .ensures) in
+    let k : length ws ≤ length out = omega (arith, shown-wide m l (c .args .self), c .block-length .ensures) in
+    let n : c .width-width .result + 2 ≤ length out = omega (arith, c .width-width .ensures, c .block-length .ensures) in
     let w : length ws ≡ c .width-width .result = shown-wide m l (c .args .self) ∙ sym (c .width-width .ensures) in
     record {
       answer = ap Some (ap (λ n. n + 2) (c .width-width .ensures) ∙ sym e) ∙ fitting-room bs out h;
