@@ -28,13 +28,13 @@ pub trait Kind: Sized + Copy {
         ensures { λ r. ⌜ r ≡ meaning .high-limit ⌝ };
 
     // What stands in process data in place of a value below the range, above it, or where there is none.
-    fn below_substitute() -> &'static [u8]
+    fn below_substitute<'a>() -> &'a [u8]
         ensures { λ r. ⌜ now r ≡ meaning .below-substitute ⌝ };
 
-    fn above_substitute() -> &'static [u8]
+    fn above_substitute<'a>() -> &'a [u8]
         ensures { λ r. ⌜ now r ≡ meaning .above-substitute ⌝ };
 
-    fn no_data_substitute() -> &'static [u8]
+    fn no_data_substitute<'a>() -> &'a [u8]
         ensures { λ r. ⌜ now r ≡ meaning .no-data-substitute ⌝ };
 
     // The value of the octets, high octet first; none where they are no value.

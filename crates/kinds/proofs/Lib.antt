@@ -1,0 +1,2 @@
+mod Integers
+mod Same

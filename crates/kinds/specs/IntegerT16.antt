@@ -1,0 +1,27 @@
+-- IntegerT16: whole numbers from -32,768 to 32,767, in two octets. No range goes past ±32,000.
+use mathlib.Core.List.{[], _∷_}
+use Prim.Native.Nat.{_^_, _<_}
+use lib.Dec.{lit<}
+use lib.IntN.{ℤ, pos, negsuc}
+use lib.Signed.{mag}
+use mir.Syntax.{w16}
+use Rattle.numbers.specs.Octets.{two}
+use Rattle.kinds.specs.Integers.{Make}
+use Rattle.kinds.specs.declared.integer_t16.IntegerT16.{IntegerT16}
+
+abbrev value-of : (z : ℤ) → mag z < 2 ^ 15 → IntegerT16
+value-of z h = record { value = z; within = h }
+
+abbrev pub integer-t16 : Make IntegerT16
+integer-t16 = record {
+  width = w16;
+  number = λ v. v .value;
+  within = λ v. v .within;
+  value = value-of;
+  coding = two;
+  lowest = value-of (negsuc 31999) (lit< tt);
+  highest = value-of (pos 32000) (lit< tt);
+  below = 0x80 ∷ 0x08 ∷ [];
+  above = 0x7f ∷ 0xf8 ∷ [];
+  no-data = 0x7f ∷ 0xfc ∷ [];
+}

@@ -1,0 +1,11 @@
+// IntegerT16: a whole number of 16 bits.
+ghost use Prim.Native.Nat.{_<_, _^_};
+ghost use lib.Signed.{mag};
+
+pub mod kind;
+
+#[derive(Clone, Copy)]
+pub struct IntegerT16 {
+    value: i16,
+    ghost within: { mag value < 2 ^ 15 },
+}

@@ -1,0 +1,11 @@
+// IntegerT32: a whole number of 32 bits.
+ghost use Prim.Native.Nat.{_<_, _^_};
+ghost use lib.Signed.{mag};
+
+pub mod kind;
+
+#[derive(Clone, Copy)]
+pub struct IntegerT32 {
+    value: i32,
+    ghost within: { mag value < 2 ^ 31 },
+}

@@ -1,0 +1,1 @@
+// The arithmetic behind the kinds of measured value: octets, whole numbers of a width, and floats.
