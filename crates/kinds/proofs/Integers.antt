@@ -8,16 +8,17 @@ use lib.Dec.{T}
 use lib.IntN.{ℤ, pos, _+ℤ_, _-ℤ_}
 use lib.ListN.{length}
 use lib.Signed.{mag, shrZ, leZ, _≤ℤ_, _<ℤ_, leZ-yes, ≤ℤ-refl}
-use mir.Val.{toZ, ofZ, hbits, bits}
+use mir.Val.{ofZ, hbits, bits}
 use Rattle.std.proofs.shelf.Signed.{ints, toZ-ofZ}
 use Rattle.std.specs.Numbers.{saturated}
 use Rattle.std.specs.declared.option.Option.{Option}
 use Rattle.std.specs.declared.option.Option.the-variants.{Some}
-use Rattle.numbers.specs.Octets.{when-some}
-use Rattle.numbers.proofs.Octets.{Sound, some-of}
-use Rattle.numbers.proofs.Wholes.{saturated-same, saturated-order, half-low, half-high, pattern-below, read-within}
+use Rattle.numbers.specs.Options.{when-some}
+use Rattle.numbers.proofs.Octets.{Sound}
+use Rattle.numbers.proofs.Options.{some-of}
+use Rattle.numbers.proofs.Wholes.{saturated-same, saturated-order, half-low, half-high, pattern-below}
 use Rattle.kinds.specs.Meaning.{Meaning, Lawful, lesser, greater}
-use Rattle.kinds.specs.Integers.{Make, integers}
+use Rattle.kinds.specs.Integers.{Make, integers, of-pattern}
 
 -- What is owed of each make.
 pub record Fit (V : Type 0) (make : Make V) : Type 0 where
@@ -68,7 +69,7 @@ module _ {V : Type 0} (make : Make V) (fit : Fit V make) where
 
   back : (v : V) → m .read (m .octets v) ≡ Some v
   back v =
-      ap (λ (o : Option ℕ). when-some o (λ n. Some (make .value (toZ (make .width) n) (read-within (make .width) n)))) (fit .coded .back (ofZ (make .width) (z v)) (pattern-below (make .width) (z v) (make .within v)))
+      ap (λ (o : Option ℕ). when-some o (of-pattern make)) (fit .coded .back (ofZ (make .width) (z v)) (pattern-below (make .width) (z v) (make .within v)))
       ∙ ap Some (fit .same _ v (fit .number-of _ _ ∙ toZ-ofZ (make .width) (z v) (record { sfits = make .within v })))
 
   same-sum : (v : V) (y : ℤ) (h : mag (saturated k y) < 2 ^ k) → y ≡ z v → make .value (saturated k y) h ≡ v

@@ -1,7 +1,7 @@
 -- IntegerT16: whole numbers from -32,768 to 32,767, in two octets. No range goes past ±32,000.
 use mathlib.Core.List.{[], _∷_}
 use Prim.Native.Nat.{_^_, _<_}
-use lib.Dec.{lit<}
+use lib.Dec.{lit<, lt→ltb, ltb→lt}
 use lib.IntN.{ℤ, pos, negsuc}
 use lib.Signed.{mag}
 use mir.Syntax.{w16}
@@ -10,13 +10,13 @@ use Rattle.kinds.specs.Integers.{Make}
 use Rattle.kinds.specs.declared.integer_t16.IntegerT16.{IntegerT16}
 
 abbrev value-of : (z : ℤ) → mag z < 2 ^ 15 → IntegerT16
-value-of z h = record { value = z; within = h }
+value-of z h = record { value = z; within = lt→ltb (mag z) (2 ^ 15) h }
 
 abbrev pub integer-t16 : Make IntegerT16
 integer-t16 = record {
   width = w16;
   number = λ v. v .value;
-  within = λ v. v .within;
+  within = λ v. ltb→lt (mag (v .value)) (2 ^ 15) (v .within);
   value = value-of;
   coding = two;
   lowest = value-of (negsuc 31999) (lit< tt);

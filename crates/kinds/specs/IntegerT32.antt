@@ -1,7 +1,7 @@
 -- IntegerT32: whole numbers from -2,147,483,648 to 2,147,483,647, in four octets. No range goes past ±2,000,000,000.
 use mathlib.Core.List.{[], _∷_}
 use Prim.Native.Nat.{_^_, _<_}
-use lib.Dec.{lit<}
+use lib.Dec.{lit<, lt→ltb, ltb→lt}
 use lib.IntN.{ℤ, pos, negsuc}
 use lib.Signed.{mag}
 use mir.Syntax.{w32}
@@ -10,13 +10,13 @@ use Rattle.kinds.specs.Integers.{Make}
 use Rattle.kinds.specs.declared.integer_t32.IntegerT32.{IntegerT32}
 
 abbrev value-of : (z : ℤ) → mag z < 2 ^ 31 → IntegerT32
-value-of z h = record { value = z; within = h }
+value-of z h = record { value = z; within = lt→ltb (mag z) (2 ^ 31) h }
 
 abbrev pub integer-t32 : Make IntegerT32
 integer-t32 = record {
   width = w32;
   number = λ v. v .value;
-  within = λ v. v .within;
+  within = λ v. ltb→lt (mag (v .value)) (2 ^ 31) (v .within);
   value = value-of;
   coding = four;
   lowest = value-of (negsuc 1999999999) (lit< tt);

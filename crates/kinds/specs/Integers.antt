@@ -8,7 +8,8 @@ use mir.Val.{toZ, ofZ, hbits}
 use Rattle.std.specs.Numbers.{saturated}
 use Rattle.std.specs.declared.option.Option.{Option}
 use Rattle.std.specs.declared.option.Option.the-variants.{Some}
-use Rattle.numbers.specs.Octets.{Coding, when-some}
+use Rattle.numbers.specs.Octets.{Coding}
+use Rattle.numbers.specs.Options.{when-some}
 use Rattle.numbers.proofs.Wholes.{saturated-within, half-within, read-within}
 use Rattle.kinds.specs.Meaning.{Meaning}
 
@@ -37,8 +38,8 @@ module _ {V : Type 0} (make : Make V) where
   abbrev octets-of : V → List ℕ
   octets-of v = make .coding .written (ofZ (make .width) (make .number v))
 
-  abbrev read-as : List ℕ → Option V
-  read-as octets = when-some (make .coding .number octets) (λ n. Some (make .value (toZ (make .width) n) (read-within (make .width) n)))
+  abbrev pub of-pattern : ℕ → Option V
+  of-pattern n = Some (make .value (toZ (make .width) n) (read-within (make .width) n))
 
   -- a step is 1, and the sum stops at the ends of the width
   abbrev raised : V → ℕ → V
@@ -57,7 +58,7 @@ module _ {V : Type 0} (make : Make V) where
     width = make .coding .count;
     rank = make .number;
     octets = octets-of;
-    read = read-as;
+    read = λ octets. when-some (make .coding .number octets) of-pattern;
     raised = raised;
     lowered = lowered;
     middle = middle;

@@ -1,5 +1,6 @@
 // IntegerT32: a whole number of 32 bits.
-ghost use Prim.Native.Nat.{_<_, _^_};
+ghost use Prim.Native.Nat.{_^_};
+ghost use lib.Dec.{T, ltb};
 ghost use lib.Signed.{mag};
 
 pub mod kind;
@@ -7,5 +8,5 @@ pub mod kind;
 #[derive(Clone, Copy)]
 pub struct IntegerT32 {
     value: i32,
-    ghost within: { mag value < 2 ^ 31 },
+    ghost within: { T (ltb (mag value) (2 ^ 31)) },
 }

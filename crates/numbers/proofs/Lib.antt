@@ -1,2 +1,13 @@
+pub mod Fractions
+pub mod Middle
+pub mod Moves
 pub mod Octets
+pub mod Options
+pub mod Order
+pub mod Patterns
+pub mod Rounding
+pub mod Signs
+pub mod Sums
+pub mod Units
 pub mod Wholes
+pub mod Worth

@@ -4,10 +4,9 @@ use mathlib.Core.List.{List, [], _∷_}
 use Prim.Native.Nat.{ℕ, _+_, _*_, _/_, _%_, _^_, _<_}
 use native.Mathlib.Nat.{div-div-eq-div-mul}
 use native.Mathlib.Omega.{arith}
-use lib.ListN.{length, getD}
-use Rattle.std.specs.declared.option.Option.{Option}
-use Rattle.std.specs.declared.option.Option.the-variants.{Some, None}
-use Rattle.numbers.specs.Octets.{Coding, two, four, number-of-two, number-of-four, when-some}
+use lib.ListN.{length}
+use Rattle.std.specs.declared.option.Option.the-variants.{Some}
+use Rattle.numbers.specs.Octets.{Coding, two, four, number-of-two, number-of-four}
 
 -- What makes a coding of numbers below a bound sound.
 pub record Sound (c : Coding) (bound : ℕ) : Type 0 where
@@ -27,19 +26,6 @@ two-sound = record { wide = λ n. refl; back = λ n h. ap Some (together n h); o
     only (a ∷ []) n e = absurd (let z : _≡_ {A = ℕ} 0 1 = cc in omega arith)
     only (a ∷ b ∷ []) n e = refl
     only (a ∷ b ∷ c ∷ more) n e = absurd (let z : _≡_ {A = ℕ} 0 1 = cc in omega arith)
-
--- what two octets write, each by its place
-pub two-by-place : (xs : List ℕ) → length xs ≡ 2 → number-of-two xs ≡ Some (getD xs 0 0 * 256 + getD xs 1 0)
-two-by-place [] h = absurd (omega arith)
-two-by-place (a ∷ []) h = absurd (omega arith)
-two-by-place (a ∷ b ∷ []) h = refl
-two-by-place (a ∷ b ∷ c ∷ more) h = absurd (omega arith)
-
-pub not-two : (xs : List ℕ) → (length xs ≡ 2 → ⊥) → number-of-two xs ≡ None
-not-two [] h = refl
-not-two (a ∷ []) h = refl
-not-two (a ∷ b ∷ []) h = absurd (h refl)
-not-two (a ∷ b ∷ c ∷ more) h = refl
 
 -- ---- four octets
 digit : (n : ℕ) → n ≡ n / 256 * 256 + n % 256
@@ -69,25 +55,3 @@ four-sound = record { wide = λ n. refl; back = λ n h. ap Some (four-together n
     only (a ∷ b ∷ c ∷ []) n e = absurd (let z : _≡_ {A = ℕ} 0 1 = cc in omega arith)
     only (a ∷ b ∷ c ∷ d ∷ []) n e = refl
     only (a ∷ b ∷ c ∷ d ∷ f ∷ more) n e = absurd (let z : _≡_ {A = ℕ} 0 1 = cc in omega arith)
-
--- what four octets write, each by its place
-pub four-by-place : (xs : List ℕ) → length xs ≡ 4 → number-of-four xs ≡ Some (getD xs 0 0 * 16777216 + getD xs 1 0 * 65536 + getD xs 2 0 * 256 + getD xs 3 0)
-four-by-place [] h = absurd (omega arith)
-four-by-place (a ∷ []) h = absurd (omega arith)
-four-by-place (a ∷ b ∷ []) h = absurd (omega arith)
-four-by-place (a ∷ b ∷ c ∷ []) h = absurd (omega arith)
-four-by-place (a ∷ b ∷ c ∷ d ∷ []) h = refl
-four-by-place (a ∷ b ∷ c ∷ d ∷ e ∷ more) h = absurd (omega arith)
-
-pub not-four : (xs : List ℕ) → (length xs ≡ 4 → ⊥) → number-of-four xs ≡ None
-not-four [] h = refl
-not-four (a ∷ []) h = refl
-not-four (a ∷ b ∷ []) h = refl
-not-four (a ∷ b ∷ c ∷ []) h = refl
-not-four (a ∷ b ∷ c ∷ d ∷ []) h = absurd (h refl)
-not-four (a ∷ b ∷ c ∷ d ∷ e ∷ more) h = refl
-
--- ---- a value that is made of what octets write was made of some number
-pub some-of : {A B : Type 0} (o : Option A) (f : A → Option B) (v : B) → when-some o f ≡ Some v → (a : A) × (o ≡ Some a)
-some-of (Some a) f v e = (a, refl)
-some-of None f v e = absurd (let z : _≡_ {A = ℕ} 0 1 = cc in omega arith)

@@ -1,17 +1,17 @@
 -- Whole numbers of k bits beside the sign's, from -2^k to 2^k - 1: sums that stop at the ends, and halves.
-use mathlib.Core.Path.{_≡_, ap, _∙_}
+use mathlib.Core.Path.{_≡_, ap}
 use mathlib.Core.Bool.{Bool, true, false, cond}
-use Prim.Native.Nat.{ℕ, suc, _+_, _-_, _^_, _<_, _≤_}
+use Prim.Native.Nat.{ℕ, suc, _-_, _^_, _<_, _≤_}
 use native.Mathlib.Omega.{arith}
 use lib.Dec.{ltb}
-use lib.IntN.{ℤ, pos, negsuc, _+ℤ_, _-ℤ_, subℕ}
+use lib.IntN.{ℤ, pos, negsuc, _+ℤ_, subℕ}
 use lib.Pow.{pow-pos}
 use lib.Signed.{mag, shrZ, _≤ℤ_}
 use borrow.Author.Gap.{read-sfits}
 use mir.Syntax.{Width, w8, w16, w32, w64, w128}
 use mir.Val.{toZ, ofZ, hbits, bits}
 use Rattle.std.specs.Numbers.{saturated}
-use Rattle.std.proofs.shelf.Signed.{ints, toZ-ofZ, toZ-pos}
+use Rattle.std.proofs.shelf.Signed.{ints}
 
 -- ---- saturation
 pub saturated-within : (k : ℕ) (z : ℤ) → mag (saturated k z) < 2 ^ k
@@ -27,25 +27,6 @@ saturated-order k (pos a) (pos b) h = omega (arith, ints)
 saturated-order k (pos a) (negsuc b) h = absurd (h .le)
 saturated-order k (negsuc a) (pos b) h = omega (arith, ints)
 saturated-order k (negsuc a) (negsuc b) h = omega (arith, ints)
-
--- to stop at the ends on the way changes nothing, where the way goes on in one direction
-up-again : (k : ℕ) (z : ℤ) (a b : ℕ) → mag z < 2 ^ k → saturated k (saturated k (z +ℤ pos a) +ℤ pos b) ≡ saturated k (z +ℤ pos (a + b))
-up-again k z a b h = grind (arith, ints, pow-pos k)
-
-down-again : (k : ℕ) (z : ℤ) (a b : ℕ) → mag z < 2 ^ k → saturated k (saturated k (z -ℤ pos a) -ℤ pos b) ≡ saturated k (z -ℤ pos (a + b))
-down-again k z a b h = grind (arith, ints, pow-pos k)
-
--- n in parts: twice a half, then the rest
-module _ (k : ℕ) (z x y r : ℤ) (half rest n : ℕ) (h : mag z < 2 ^ k) (e : half + half + rest ≡ n) where
-  pub up-in-parts : x ≡ saturated k (z +ℤ pos half) → y ≡ saturated k (x +ℤ pos half) → r ≡ saturated k (y +ℤ pos rest) → r ≡ saturated k (z +ℤ pos n)
-  up-in-parts p q t =
-      t ∙ ap (λ (u : ℤ). saturated k (u +ℤ pos rest)) (q ∙ ap (λ (u : ℤ). saturated k (u +ℤ pos half)) p ∙ up-again k z half half h)
-      ∙ up-again k z (half + half) rest h ∙ ap (λ (u : ℕ). saturated k (z +ℤ pos u)) e
-
-  pub down-in-parts : x ≡ saturated k (z -ℤ pos half) → y ≡ saturated k (x -ℤ pos half) → r ≡ saturated k (y -ℤ pos rest) → r ≡ saturated k (z -ℤ pos n)
-  down-in-parts p q t =
-      t ∙ ap (λ (u : ℤ). saturated k (u -ℤ pos rest)) (q ∙ ap (λ (u : ℤ). saturated k (u -ℤ pos half)) p ∙ down-again k z half half h)
-      ∙ down-again k z (half + half) rest h ∙ ap (λ (u : ℕ). saturated k (z -ℤ pos u)) e
 
 -- ---- the half of a sum, rounded down
 apart-within : (k a b : ℕ) → a < 2 ^ k → b ≤ 2 ^ k → mag (shrZ (subℕ a b) 2) < 2 ^ k
@@ -78,11 +59,3 @@ pattern-below w16 z h = grind (arith, ints)
 pattern-below w32 z h = grind (arith, ints)
 pattern-below w64 z h = grind (arith, ints)
 pattern-below w128 z h = grind (arith, ints)
-
--- operands that were written to their bits and read back
-module _ (w : Width) (z r : ℤ) (n : ℕ) (h : mag z < 2 ^ hbits w) (l : n < 2 ^ hbits w) where
-  pub added : r ≡ saturated (hbits w) (toZ w (ofZ w z) +ℤ toZ w n) → r ≡ saturated (hbits w) (z +ℤ pos n)
-  added e = e ∙ (λ i. saturated (hbits w) (toZ-ofZ w z (record { sfits = h }) i +ℤ toZ-pos w n l i))
-
-  pub taken : r ≡ saturated (hbits w) (toZ w (ofZ w z) -ℤ toZ w n) → r ≡ saturated (hbits w) (z -ℤ pos n)
-  taken e = e ∙ (λ i. saturated (hbits w) (toZ-ofZ w z (record { sfits = h }) i -ℤ toZ-pos w n l i))

@@ -1,1 +1,3 @@
+pub mod Floats
 pub mod Octets
+pub mod Options

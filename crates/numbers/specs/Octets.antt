@@ -36,8 +36,3 @@ number-of-four (a ∷ b ∷ c ∷ d ∷ e ∷ more) = None
 
 abbrev pub four : Coding
 four = record { count = 4; written = four-octets; number = number-of-four }
-
--- what a value becomes, where there is one
-abbrev pub when-some : {A B : Type 0} → Option A → (A → Option B) → Option B
-when-some (Some a) f = f a
-when-some None f = None

@@ -3,6 +3,43 @@ use crate::integer_t16::IntegerT16;
 use crate::kind::Kind;
 ghost use Rattle.kinds.specs.IntegerT16.{integer-t16};
 ghost use Rattle.kinds.specs.Integers.{integers};
+ghost use Rattle.std.specs.Numbers.{saturated};
+ghost use lib.IntN.{_+ℤ_, _-ℤ_, pos};
+ghost use lib.Signed.{shrZ};
+ghost use mathlib.Core.Path.{_≡_};
+
+// What the number is raised to: it stops at the highest. The number of steps does not fit an i16, so the sum is taken
+// in 32 bits and brought back.
+fn up(number: i16, steps: u16) -> i16
+    ensures { λ r. ⌜ r ≡ saturated 15 (number +ℤ pos steps) ⌝ }
+{
+    let sum = i32::from(number).saturating_add(i32::from(steps));
+    if sum > i32::from(i16::MAX) {
+        i16::MAX
+    } else {
+        sum as i16
+    }
+}
+
+// What the number is lowered to: it stops at the lowest.
+fn down(number: i16, steps: u16) -> i16
+    ensures { λ r. ⌜ r ≡ saturated 15 (number -ℤ pos steps) ⌝ }
+{
+    let rest = i32::from(number).saturating_sub(i32::from(steps));
+    if rest < i32::from(i16::MIN) {
+        i16::MIN
+    } else {
+        rest as i16
+    }
+}
+
+// Half the sum, rounded down.
+fn halfway(number: i16, other: i16) -> i16
+    ensures { λ r. ⌜ r ≡ shrZ (number +ℤ other) 2 ⌝ }
+{
+    let sum = i32::from(number) + i32::from(other);
+    (sum >> 1) as i16
+}
 
 pub impl Kind for IntegerT16 as IntegerT16Kind {
     const OCTET_WIDTH: usize = 2;
@@ -40,12 +77,12 @@ pub impl Kind for IntegerT16 as IntegerT16Kind {
     }
 
     fn read(octets: &[u8]) -> Option<IntegerT16> {
-        if octets.len() != Self::OCTET_WIDTH {
-            return None;
+        match numbers::from_two(octets) {
+            Some(pattern) => Some(IntegerT16 {
+                value: pattern.cast_signed(),
+            }),
+            None => None,
         }
-        Some(IntegerT16 {
-            value: i16::from_be_bytes([octets[0], octets[1]]),
-        })
     }
 
     fn write(self, out: &mut [u8]) -> Option<usize> {
@@ -60,33 +97,21 @@ pub impl Kind for IntegerT16 as IntegerT16Kind {
         self.value < other.value
     }
 
-    // 65,535 steps do not fit an i16: the halves of their number are added one after the other, then what is left over.
     fn raise(self, steps: u16) -> IntegerT16 {
-        let half = (steps / 2) as i16;
-        let rest = (steps % 2) as i16;
         IntegerT16 {
-            value: self.value
-                .saturating_add(half)
-                .saturating_add(half)
-                .saturating_add(rest),
+            value: up(self.value, steps),
         }
     }
 
     fn lower(self, steps: u16) -> IntegerT16 {
-        let half = (steps / 2) as i16;
-        let rest = (steps % 2) as i16;
         IntegerT16 {
-            value: self.value
-                .saturating_sub(half)
-                .saturating_sub(half)
-                .saturating_sub(rest),
+            value: down(self.value, steps),
         }
     }
 
     fn middle(self, other: IntegerT16) -> IntegerT16 {
-        let sum = i32::from(self.value) + i32::from(other.value);
         IntegerT16 {
-            value: (sum >> 1) as i16,
+            value: halfway(self.value, other.value),
         }
     }
 }

@@ -3,6 +3,32 @@ use crate::integer_t32::IntegerT32;
 use crate::kind::Kind;
 ghost use Rattle.kinds.specs.IntegerT32.{integer-t32};
 ghost use Rattle.kinds.specs.Integers.{integers};
+ghost use Rattle.std.specs.Numbers.{saturated};
+ghost use lib.IntN.{_+ℤ_, _-ℤ_, pos};
+ghost use lib.Signed.{shrZ};
+ghost use mathlib.Core.Path.{_≡_};
+
+// What the number is raised to: it stops at the highest.
+fn up(number: i32, steps: u16) -> i32
+    ensures { λ r. ⌜ r ≡ saturated 31 (number +ℤ pos steps) ⌝ }
+{
+    number.saturating_add(i32::from(steps))
+}
+
+// What the number is lowered to: it stops at the lowest.
+fn down(number: i32, steps: u16) -> i32
+    ensures { λ r. ⌜ r ≡ saturated 31 (number -ℤ pos steps) ⌝ }
+{
+    number.saturating_sub(i32::from(steps))
+}
+
+// Half the sum, rounded down.
+fn halfway(number: i32, other: i32) -> i32
+    ensures { λ r. ⌜ r ≡ shrZ (number +ℤ other) 2 ⌝ }
+{
+    let sum = i64::from(number) + i64::from(other);
+    (sum >> 1) as i32
+}
 
 pub impl Kind for IntegerT32 as IntegerT32Kind {
     const OCTET_WIDTH: usize = 4;
@@ -44,12 +70,12 @@ pub impl Kind for IntegerT32 as IntegerT32Kind {
     }
 
     fn read(octets: &[u8]) -> Option<IntegerT32> {
-        if octets.len() != Self::OCTET_WIDTH {
-            return None;
+        match numbers::from_four(octets) {
+            Some(pattern) => Some(IntegerT32 {
+                value: pattern.cast_signed(),
+            }),
+            None => None,
         }
-        Some(IntegerT32 {
-            value: i32::from_be_bytes([octets[0], octets[1], octets[2], octets[3]]),
-        })
     }
 
     fn write(self, out: &mut [u8]) -> Option<usize> {
@@ -66,20 +92,19 @@ pub impl Kind for IntegerT32 as IntegerT32Kind {
 
     fn raise(self, steps: u16) -> IntegerT32 {
         IntegerT32 {
-            value: self.value.saturating_add(i32::from(steps)),
+            value: up(self.value, steps),
         }
     }
 
     fn lower(self, steps: u16) -> IntegerT32 {
         IntegerT32 {
-            value: self.value.saturating_sub(i32::from(steps)),
+            value: down(self.value, steps),
         }
     }
 
     fn middle(self, other: IntegerT32) -> IntegerT32 {
-        let sum = i64::from(self.value) + i64::from(other.value);
         IntegerT32 {
-            value: (sum >> 1) as i32,
+            value: halfway(self.value, other.value),
         }
     }
 }
