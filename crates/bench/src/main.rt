@@ -4,6 +4,8 @@ mod run;
 mod script;
 mod session;
 
+use kinds::float32_t::Float32T;
+use kinds::float32_t::kind::Float32TKind;
 use kinds::integer_t16::IntegerT16;
 use kinds::integer_t16::kind::IntegerT16Kind;
 use kinds::integer_t32::IntegerT32;
@@ -24,7 +26,7 @@ fn run_section(rt: &LibcRuntime, section: &Section, tally: &mut Tally) -> io::Re
     match section.kind {
         KindName::Int16 => run(rt, Sensor::<IntegerT16>::blank(), section, tally),
         KindName::Int32 => run(rt, Sensor::<IntegerT32>::blank(), section, tally),
-        KindName::Float32 => run(rt, Sensor::<IntegerT32>::blank(), section, tally),
+        KindName::Float32 => run(rt, Sensor::<Float32T>::blank(), section, tally),
     }
 }
 
