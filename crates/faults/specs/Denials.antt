@@ -7,6 +7,7 @@ use Rattle.faults.specs.declared.Denial.the-variants.{SetupUnderKeypad, Channe
 use Rattle.faults.specs.declared.Layer.{Layer}
 use Rattle.faults.specs.declared.Layer.the-variants.{Device, Frame, Access, Value, Teach, Keypad}
 use Rattle.faults.specs.declared.Fault.{Fault}
+use Rattle.faults.specs.declared.Place.{Place}
 
 pub record Entry : Type 0 where
   pub number : ℕ
@@ -53,3 +54,7 @@ entry NoFrame = silent 27 Frame
 -- the fault of a denial that concerns no object
 abbrev pub fault : Denial → Fault
 fault d = record { denial = d; index = 0; subindex = 0 }
+
+-- the fault of a denial that concerns the object at a place
+abbrev pub fault-at : Denial → Place → Fault
+fault-at d p = record { denial = d; index = p .index; subindex = p .subindex }

@@ -1,5 +1,5 @@
 // The denials of the core, and the fault that tells of one.
-ghost use Rattle.faults.specs.Denials.{entry, fault};
+ghost use Rattle.faults.specs.Denials.{entry, fault, fault-at};
 ghost use mathlib.Core.Path.{_≡_};
 
 // Why a call is denied: a case for each number, in their order from 1.
@@ -159,6 +159,13 @@ impl Denial {
     }
 }
 
+// The object that a call concerns.
+#[derive(Clone, Copy, PartialEq, Eq, Debug)]
+pub struct Place {
+    pub index: u16,
+    pub subindex: u8,
+}
+
 // A denial and the object that it concerns: index and subindex are 0 where no object is concerned.
 #[derive(Clone, Copy, PartialEq, Eq, Debug)]
 pub struct Fault {
@@ -176,6 +183,17 @@ impl Fault {
             denial,
             index: 0,
             subindex: 0,
+        }
+    }
+
+    // A fault that concerns the object at a place.
+    pub const fn at(denial: Denial, place: Place) -> Fault
+        ensures { λ r. ⌜ r ≡ fault-at denial place ⌝ }
+    {
+        Fault {
+            denial,
+            index: place.index,
+            subindex: place.subindex,
         }
     }
 }

@@ -1,0 +1,6 @@
+pub mod Captures
+pub mod Commands
+pub mod Evaluation
+pub mod Flags
+pub mod Machine
+pub mod Teaching
