@@ -1,2 +1,3 @@
 mod Integers
 mod Same
+pub mod Bounds

@@ -4,3 +4,4 @@ pub mod Evaluation
 pub mod Flags
 pub mod Machine
 pub mod Teaching
+pub mod Promises

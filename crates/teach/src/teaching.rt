@@ -1,5 +1,6 @@
 // A sensor's teach: the machine with its flags, what was taught since the last select, and whether it failed.
 ghost use Rattle.teach.specs.Flags.{changed, flag-bits, no-flags};
+ghost use Rattle.teach.specs.Promises.{Cancel-stores-nothing, Captures-widen, Stores-within, Takes-exactly-C};
 ghost use Rattle.teach.specs.Teaching.{fed-store, fed-teach, idle as idle-teach, is-idle, known, settled, store-of, taken-reply, taken-teach, teach-result};
 ghost use mathlib.Core.Path.{_≡_};
 use super::command::Command;
@@ -174,6 +175,8 @@ impl<K: Kind> Teach<K> {
     ) -> Result<Option<Store<K>>, Fault>
         ensures reply { λ r. ⌜ r ≡ taken-reply meaning terms place (now (self .entry)) code ⌝ }
         ensures teach { λ _. ⌜ now (self .exit) ≡ taken-teach meaning terms place (now (self .entry)) code ⌝ }
+        ensures stores_within { λ _. ⌜ Stores-within {V = K} meaning terms ⌝ }
+        ensures cancel_stores_nothing { λ _. ⌜ Cancel-stores-nothing {V = K} meaning terms ⌝ }
     {
         let command = known_command(code, place)?;
         let effect = self.state.take(self.flags, terms, command, place)?;
@@ -184,6 +187,9 @@ impl<K: Kind> Teach<K> {
     pub fn feed(&mut self, terms: Terms, v: K) -> Option<Store<K>>
         ensures store { λ r. ⌜ r ≡ fed-store meaning terms (now (self .entry)) v ⌝ }
         ensures teach { λ _. ⌜ now (self .exit) ≡ fed-teach meaning terms (now (self .entry)) v ⌝ }
+        ensures takes_exactly_c { λ _. ⌜ Takes-exactly-C {V = K} meaning terms ⌝ }
+        ensures captures_widen { λ _. ⌜ Captures-widen {V = K} meaning terms ⌝ }
+        ensures stores_within { λ _. ⌜ Stores-within {V = K} meaning terms ⌝ }
     {
         let effect = self.state.feed(terms, v);
         self.settle(effect)

@@ -15,6 +15,7 @@ use Rattle.teach.specs.declared.terms.Terms.{Terms}
 use Rattle.teach.specs.declared.teaching.Teach.{Teach}
 use Rattle.teach.specs.Machine.{Moved, reply-by, state-by}
 use Rattle.teach.specs.Teaching.{row-in, reply-of, teach-of, reply-to, teach-to, settled, store-of, with-state}
+use Rattle.teach.proofs.Laws.{stores-within as within, cancel-stores-nothing as nothing-stored}
 use Rattle.teach.proofs.teaching.Teach.command.Needs as need
 
 module _ {V : Type 0} (m : Meaning V) (terms : Terms) (place : Place) (t : Teach V) where
@@ -47,6 +48,8 @@ returns-in-Break-effect g c =
     record {
       reply = p .1 ∙ ap Err (p .2) ∙ d .0 ∙ ap (reply-to m (c .args .terms) (c .args .place) t) k;
       teach = ap (with-state t) (e .state) ∙ d .1 ∙ ap (teach-to m (c .args .terms) t) k;
+      stores-within = within m (g .K·Kind·met .lawful) (c .args .terms);
+      cancel-stores-nothing = nothing-stored m (g .K·Kind·met .lawful) (c .args .terms);
     }
 
 pub returns : need.returns
@@ -59,4 +62,19 @@ returns g c =
     record {
       reply = ap Ok (c .settle .ensures .store) ∙ d .0 ∙ ap (reply-to m (c .args .terms) (c .args .place) t) k;
       teach = c .settle .ensures .teach ∙ ap (λ s. settled (with-state t s) (c .in-Continue-effect .effect)) (e .state) ∙ d .1 ∙ ap (teach-to m (c .args .terms) t) k;
+      stores-within = within m (g .K·Kind·met .lawful) (c .args .terms);
+      cancel-stores-nothing = nothing-stored m (g .K·Kind·met .lawful) (c .args .terms);
+    }
+
+pub returns-in-Break-command : need.returns-in-Break-command
+returns-in-Break-command g c =
+    let m = g .K·Kind .meaning in
+    let t = c .args .self .now in
+    let p = err-from-errBy (c .from-residual .result) (c .from-residual .ensures .1) in
+    let k = c .in-Break-command .ensures tt in
+    record {
+      reply = p .1 ∙ ap Err (p .2) ∙ ap (reply-to m (c .args .terms) (c .args .place) t) k;
+      teach = ap (teach-to m (c .args .terms) t) k;
+      stores-within = within m (g .K·Kind·met .lawful) (c .args .terms);
+      cancel-stores-nothing = nothing-stored m (g .K·Kind·met .lawful) (c .args .terms);
     }
