@@ -17,4 +17,4 @@ pub same-t32 : (v w : IntegerT32) → v .value ≡ w .value → v ≡ w
 same-t32 v w p = λ i. record { value = p i; within = isProp→PathP (λ j. T (ltb (mag (p j)) (2 ^ 31))) (λ j. T-prop (ltb (mag (p j)) (2 ^ 31))) (v .within) (w .within) i }
 
 pub same-float : (v w : Float32T) → v .value ≡ w .value → v ≡ w
-same-float v w p = λ i. record { value = p i; counts = isProp→PathP (λ j. proper (p j) ≡ true) (λ j. Bool-set (proper (p j)) true) (v .counts) (w .counts) i }
+same-float v w p = λ i. record { value = p i; allowed = isProp→PathP (λ j. proper (p j) ≡ true) (λ j. Bool-set (proper (p j)) true) (v .allowed) (w .allowed) i }

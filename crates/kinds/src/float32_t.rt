@@ -8,5 +8,5 @@ pub mod kind;
 #[derive(Clone, Copy)]
 pub struct Float32T {
     value: f32,
-    ghost counts: { proper value ≡ true },
+    ghost allowed: { proper value ≡ true },
 }

@@ -27,7 +27,8 @@ pub trait Kind: Sized + Copy {
     fn high_limit() -> Self
         ensures { λ r. ⌜ r ≡ meaning .high-limit ⌝ };
 
-    // What stands in process data in place of a value below the range, above it, or where there is none.
+    // What stands in process data in place of a value below the range, above it, or where there is none; lent for as long
+    // as the caller wants.
     fn below_substitute<'a>() -> &'a [u8]
         ensures { λ r. ⌜ now r ≡ meaning .below-substitute ⌝ };
 

@@ -2,18 +2,17 @@
 use mathlib.Core.Path.{_≡_, refl, sym, ap, _∙_, subst}
 use mathlib.Core.Bool.{Bool, true, false, cond, true≢false}
 use Prim.Native.Nat.{_^_}
-use native.Mathlib.Omega.{arith}
 use lib.Dec.{T}
 use lib.IntN.{ℤ, pos}
-use lib.Signed.{_≤ℤ_, leZ, leZ-yes, ≤ℤ-refl}
+use lib.Signed.{_≤ℤ_, leZ, ≤ℤ-refl}
 use lib.Ieee.{Float, nan, inf, fin, binary32, mul, le, eq, toBits, ofBits, fits}
 use lib.Ieee.Fits.{add-fits}
 use lib.Ieee.Scale.{finite}
 use lib.Ieee.Bits.{ofBits-toBits}
-use Rattle.std.proofs.shelf.Signed.{ints}
 use Rattle.numbers.specs.Floats.{rank, proper, zero-float, plain, between, lower-of, higher-of, half, halves, middle}
 use Rattle.numbers.proofs.Moves.{worth-fixes}
 use Rattle.numbers.proofs.Order.{le-worth, le-rank, zero-worth}
+use Rattle.numbers.proofs.Signs.{at-most, at-least}
 use Rattle.numbers.proofs.Units.{units-in}
 use Rattle.numbers.proofs.Worth.{proper-parts, proper-from, worth, rank-from-worth}
 
@@ -85,19 +84,17 @@ module _ (x low high : Float) (f : T (fits binary32 x)) (a : Finite low) (b : Fi
       either : (p q : Bool) → le low x ≡ p → le x high ≡ q → Finite (cond p (cond q x high) low) → (worth low ≤ℤ worth (cond p (cond q x high) low)) × (worth (cond p (cond q x high) low) ≤ℤ worth high)
       either false q u v z = (≤ℤ-refl (worth low), o)
       either true false u v z = (o, ≤ℤ-refl (worth high))
-      either true true u v z = (leZ-yes (subst T (sym u ∙ le-worth low x (a .held) (a .finite-too) f (z .finite-too)) tt), leZ-yes (subst T (sym v ∙ le-worth x high f (z .finite-too) (b .held) (b .finite-too)) tt))
+      either true true u v z = (at-most (worth low) (worth x) (sym (le-worth low x (a .held) (a .finite-too) f (z .finite-too)) ∙ u), at-most (worth x) (worth high) (sym (le-worth x high f (z .finite-too) (b .held) (b .finite-too)) ∙ v))
 
 -- ---- the middle
-total : (a b : ℤ) → leZ a b ≡ false → b ≤ℤ a
-total a b e = grind (arith, ints)
-
 module _ (x y : Float) (h : proper x ≡ true) (k : proper y ≡ true) where
+  by-worth : le x y ≡ leZ (worth x) (worth y)
+  by-worth = le-worth x y (proper-parts x h .held) (proper-parts x h .finite-too) (proper-parts y k .held) (proper-parts y k .finite-too)
+
   -- the lower of the two and the higher, in order
   ends : (t : Bool) → le x y ≡ t → Finite (cond t x y) × Finite (cond t y x) × (worth (cond t x y) ≤ℤ worth (cond t y x))
-  ends true e =
-      (of-proper x h, of-proper y k, leZ-yes (subst T (sym e ∙ le-worth x y (proper-parts x h .held) (proper-parts x h .finite-too) (proper-parts y k .held) (proper-parts y k .finite-too)) tt))
-  ends false e =
-      (of-proper y k, of-proper x h, total (worth x) (worth y) (sym (le-worth x y (proper-parts x h .held) (proper-parts x h .finite-too) (proper-parts y k .held) (proper-parts y k .finite-too)) ∙ e))
+  ends true e = (of-proper x h, of-proper y k, at-most (worth x) (worth y) (sym by-worth ∙ e))
+  ends false e = (of-proper y k, of-proper x h, at-least (worth x) (worth y) (sym by-worth ∙ e))
 
   sum-fits : T (fits binary32 (halves x y))
   sum-fits = add-fits binary32 (mul binary32 x half) (mul binary32 y half)

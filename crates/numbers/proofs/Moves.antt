@@ -19,7 +19,7 @@ use Rattle.std.proofs.shelf.Signed.{ints}
 use Rattle.numbers.specs.Floats.{negative, magnitude, signed, rank, proper, step, distance, Exact-distances}
 use Rattle.numbers.proofs.Fractions.{value-fixes, neg-value}
 use Rattle.numbers.proofs.Rounding.{largest}
-use Rattle.numbers.proofs.Signs.{mirrored, signed-size, sum-size, mirrored-order}
+use Rattle.numbers.proofs.Signs.{mirrored, signed-size, sum-size, mirrored-order, add-order}
 use Rattle.numbers.proofs.Sums.{nearest, add-is}
 use Rattle.numbers.proofs.Units.{units-in, units-order, units-grow, units-zero, units-bound, units-shape, finite-magnitude, finite-value}
 use Rattle.numbers.proofs.Worth.{proper-parts, worth, worth-is, InReach, nearest-fits, nearest-proper, nearest-order}
@@ -110,10 +110,7 @@ moved-down x y w h v k = ordered (add binary32 x y) x (worth x +ℤ negℤ (pos 
 moved-order : (x x′ y : Float) (t : Bool) (w : ℕ) → proper x ≡ true → proper x′ ≡ true → HasValue y t w (2 ^ 149) → w ≤ 2 ^ 155 → rank x ≤ℤ rank x′ → rank (add binary32 x y) ≤ℤ rank (add binary32 x′ y)
 moved-order x x′ y t w h h′ v k l =
     ordered (add binary32 x y) (add binary32 x′ y) (worth x +ℤ signed t w) (worth x′ +ℤ signed t w) (moved x h y t w v) (moved x′ h′ y t w v) (moved-in-reach x h t w k) (moved-in-reach x′ h′ t w k)
-    (shift (worth x) (worth x′) (signed t w) (mirrored-order units-in units-order (rank x) (rank x′) l))
-  where
-    shift : (a b c : ℤ) → a ≤ℤ b → (a +ℤ c) ≤ℤ (b +ℤ c)
-    shift a b c h = omega (arith, ints)
+    (add-order (worth x) (worth x′) (signed t w) (mirrored-order units-in units-order (rank x) (rank x′) l))
 
 -- ---- a distance of n steps is exact
 step-is : step ≡ fin false 1 (negsuc 9)

@@ -1,11 +1,11 @@
 -- Whole numbers by a sign and a size.
-use mathlib.Core.Path.{_≡_, refl, sym, ap, _∙_}
+use mathlib.Core.Path.{_≡_, refl, sym, ap, _∙_, subst}
 use mathlib.Core.Bool.{Bool, true, false, cond}
 use Prim.Native.Nat.{ℕ, zero, suc, _+_, _-_, _≤_, _<_}
 use native.Mathlib.Omega.{arith}
 use lib.Dec.{T, ltb, ltb→lt}
 use lib.IntN.{ℤ, pos, negsuc, negℤ, _+ℤ_, subℕ, natAbs}
-use lib.Signed.{_≤ℤ_}
+use lib.Signed.{leZ, _≤ℤ_, leZ-yes}
 use Rattle.std.proofs.shelf.Signed.{ints}
 use Rattle.numbers.specs.Floats.{signed}
 
@@ -48,3 +48,13 @@ mirrored-back f m (pos a) (pos b) h = let k : f a ≤ f b = omega (arith, ints) 
 mirrored-back f m (pos a) (negsuc b) h = absurd (let k : f (suc b) ≤ f 0 = omega (arith, ints) in omega (arith, m (suc b) 0 k))
 mirrored-back f m (negsuc a) (pos b) h = omega (arith, ints)
 mirrored-back f m (negsuc a) (negsuc b) h = let k : f (suc b) ≤ f (suc a) = omega (arith, ints) in omega (arith, ints, m (suc b) (suc a) k)
+
+-- ---- the order of whole numbers, by its test
+pub at-most : (a b : ℤ) → leZ a b ≡ true → a ≤ℤ b
+at-most a b e = leZ-yes (subst T (sym e) tt)
+
+pub at-least : (a b : ℤ) → leZ a b ≡ false → b ≤ℤ a
+at-least a b e = grind (arith, ints)
+
+pub add-order : (a b c : ℤ) → a ≤ℤ b → (a +ℤ c) ≤ℤ (b +ℤ c)
+add-order a b c h = omega (arith, ints)

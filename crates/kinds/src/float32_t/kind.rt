@@ -35,7 +35,8 @@ fn float_of(pattern: u32) -> f32
     requires { ⌜ pattern % 2 ^ 31 < 255 * 2 ^ 23 ⌝ }
     ensures { λ r. ⌜ r ≡ Floats.plain (ofBits binary32 pattern) ⌝ }
 {
-    numbers::plain(f32::from_bits(pattern))
+    let x = f32::from_bits(pattern);
+    numbers::plain(x)
 }
 
 // The value of a bit pattern, if it has one.

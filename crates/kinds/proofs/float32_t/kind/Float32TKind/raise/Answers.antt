@@ -6,7 +6,7 @@ use Rattle.kinds.proofs.Same.{same-float}
 use Rattle.kinds.proofs.float32_t.kind.Float32TKind.raise.Needs as need
 
 pub ghost-result : need.ghost-result
-ghost-result c = (ap (λ (d : Float). proper (add binary32 (c .args .self .value) d)) (c .distance .ensures) ∙ raised-proper (c .args .self .value) (c .args .self .counts) (c .args .steps), tt)
+ghost-result c = (ap (λ (d : Float). proper (add binary32 (c .args .self .value) d)) (c .distance .ensures) ∙ raised-proper (c .args .self .value) (c .args .self .allowed) (c .args .steps), tt)
 
 pub returns : need.returns
 returns c = same-float _ _ (ap (add binary32 (c .args .self .value)) (c .distance .ensures))

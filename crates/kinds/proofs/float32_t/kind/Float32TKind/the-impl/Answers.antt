@@ -26,19 +26,19 @@ back : (v : Float32T) → when-some (four .number (four .written (toBits binary3
 back v =
     let b = toBits binary32 (v .value) in
     let y = plain (ofBits binary32 b) in
-    let e : y ≡ v .value = pattern-back (v .value) (v .counts) in
-    let h : proper y ≡ true = ap proper e ∙ v .counts in
-    ap (λ (o : Option ℕ). when-some o read-pattern) (four-sound .back b (toBits-lt binary32 (v .value) (proper-parts (v .value) (v .counts) .held)))
+    let e : y ≡ v .value = pattern-back (v .value) (v .allowed) in
+    let h : proper y ≡ true = ap proper e ∙ v .allowed in
+    ap (λ (o : Option ℕ). when-some o read-pattern) (four-sound .back b (toBits-lt binary32 (v .value) (proper-parts (v .value) (v .allowed) .held)))
     ∙ when-passed (proper y) (value-of y) h ∙ ap Some (same-float (value-of y h) v e)
 
 module _ (v w : Float32T) where
   low : (t : Bool) → leZ (rank (v .value)) (rank (w .value)) ≡ t → rank (cond t v w .value) ≤ℤ rank (middle (v .value) (w .value))
-  low true e = subst (λ (x : Float). rank x ≤ℤ rank (middle (v .value) (w .value))) (lower-is (v .value) (w .value) (v .counts) (w .counts) true e) (middle-above (v .value) (w .value) (v .counts) (w .counts))
-  low false e = subst (λ (x : Float). rank x ≤ℤ rank (middle (v .value) (w .value))) (lower-is (v .value) (w .value) (v .counts) (w .counts) false e) (middle-above (v .value) (w .value) (v .counts) (w .counts))
+  low true e = subst (λ (x : Float). rank x ≤ℤ rank (middle (v .value) (w .value))) (lower-is (v .value) (w .value) (v .allowed) (w .allowed) true e) (middle-above (v .value) (w .value) (v .allowed) (w .allowed))
+  low false e = subst (λ (x : Float). rank x ≤ℤ rank (middle (v .value) (w .value))) (lower-is (v .value) (w .value) (v .allowed) (w .allowed) false e) (middle-above (v .value) (w .value) (v .allowed) (w .allowed))
 
   high : (t : Bool) → leZ (rank (v .value)) (rank (w .value)) ≡ t → rank (middle (v .value) (w .value)) ≤ℤ rank (cond t w v .value)
-  high true e = subst (λ (x : Float). rank (middle (v .value) (w .value)) ≤ℤ rank x) (higher-is (v .value) (w .value) (v .counts) (w .counts) true e) (middle-under (v .value) (w .value) (v .counts) (w .counts))
-  high false e = subst (λ (x : Float). rank (middle (v .value) (w .value)) ≤ℤ rank x) (higher-is (v .value) (w .value) (v .counts) (w .counts) false e) (middle-under (v .value) (w .value) (v .counts) (w .counts))
+  high true e = subst (λ (x : Float). rank (middle (v .value) (w .value)) ≤ℤ rank x) (higher-is (v .value) (w .value) (v .allowed) (w .allowed) true e) (middle-under (v .value) (w .value) (v .allowed) (w .allowed))
+  high false e = subst (λ (x : Float). rank (middle (v .value) (w .value)) ≤ℤ rank x) (higher-is (v .value) (w .value) (v .allowed) (w .allowed) false e) (middle-under (v .value) (w .value) (v .allowed) (w .allowed))
 
 apart : rank (ofInt binary32 (negsuc 999999)) <ℤ rank (ofInt binary32 (pos 1000000))
 unfolding ofInt toBits
@@ -53,13 +53,13 @@ lawful-law = record {
   no-data-wide = refl;
   read-wide = λ xs v e. let s = some-of (four .number xs) read-pattern v e in four-sound .only xs (s .0) (s .1);
   read-back = back;
-  same-rank = λ v w e. same-float v w (Moves.rank-fixes (v .value) (w .value) (v .counts) (w .counts) e);
-  raised-up = λ v n. Moves.raised-up (v .value) (v .counts) n;
-  lowered-down = λ v n. Moves.lowered-down (v .value) (v .counts) n;
-  raised-none = λ v. same-float _ v (Moves.raised-none (v .value) (v .counts));
-  lowered-none = λ v. same-float _ v (Moves.lowered-none (v .value) (v .counts));
-  raised-order = λ v w n h. Moves.raised-order (v .value) (v .counts) (w .value) n (w .counts) h;
-  lowered-order = λ v w n h. Moves.lowered-order (v .value) (v .counts) (w .value) n (w .counts) h;
+  same-rank = λ v w e. same-float v w (Moves.rank-fixes (v .value) (w .value) (v .allowed) (w .allowed) e);
+  raised-up = λ v n. Moves.raised-up (v .value) (v .allowed) n;
+  lowered-down = λ v n. Moves.lowered-down (v .value) (v .allowed) n;
+  raised-none = λ v. same-float _ v (Moves.raised-none (v .value) (v .allowed));
+  lowered-none = λ v. same-float _ v (Moves.lowered-none (v .value) (v .allowed));
+  raised-order = λ v w n h. Moves.raised-order (v .value) (v .allowed) (w .value) n (w .allowed) h;
+  lowered-order = λ v w n h. Moves.lowered-order (v .value) (v .allowed) (w .value) n (w .allowed) h;
   middle-low = λ v w. low v w (leZ (rank (v .value)) (rank (w .value))) refl;
   middle-high = λ v w. high v w (leZ (rank (v .value)) (rank (w .value))) refl;
   limits-apart = apart;
