@@ -1,0 +1,7 @@
+mod ByPlace
+mod Answered
+mod Balance
+mod Frames
+mod Buffers
+mod Agreement
+mod Least

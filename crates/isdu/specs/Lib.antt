@@ -1,0 +1,11 @@
+pub mod Requests
+pub mod CheckOctet
+pub mod Services
+pub mod Addresses
+pub mod Decoding
+pub mod Composing
+pub mod Replies
+pub mod Layout
+pub mod Promises
+pub mod Views
+pub mod Examples
