@@ -4,18 +4,19 @@ use mathlib.Core.Logic.{⊎-elim}
 use mathlib.Core.List.{List, [], _∷_, _++_}
 use Prim.Native.Nat.{ℕ, _+_, _<_, _≤_}
 use native.Mathlib.Omega.{arith}
+use lib.Dec.{ltb}
 use lib.ListN.{length, take, drop}
 use Rattle.octets.specs.Buffers.{over}
 use Rattle.std.proofs.shelf.Lists.{append-assoc, length-append, length-drop, length-push, take-at, drop-at, drop-drop}
-use Rattle.std.proofs.shelf.Tests.{cond-true, cond-false, lt-ltb, le-ltb, cases-lt}
-use Rattle.std.specs.declared.option.Option.{Option}
-use Rattle.std.specs.declared.option.Option.the-variants.{Some, None}
-use Rattle.std.specs.declared.result.Result.the-variants.{Ok, Err}
+use Rattle.std.proofs.shelf.Tests.{ltb-false, cases-lt}
+use Rattle.std.specs.declared.result.Result.{Result}
+use Rattle.std.specs.declared.result.Result.the-variants.{Ok}
 use Rattle.faults.specs.declared.Fault.{Fault}
 use Rattle.faults.specs.declared.Denial.the-variants.{NoFrame, BufferTooShort}
 use Rattle.faults.specs.Denials.{fault}
 use Rattle.isdu.specs.CheckOctet.{exclusive-or, checked}
-use Rattle.isdu.specs.Composing.{shortest-heading, total-length, frame-length, framed, delivered}
+use Rattle.isdu.specs.Composing.{shortest-heading, total-length, framed, delivered}
+use Rattle.isdu.proofs.Answered.{passed, same-answer}
 use Rattle.isdu.proofs.Frames.{framed-length, total-short, total-long}
 
 pub over-front : (ws xs ys : List ℕ) (n : ℕ) → n ≡ length ws → ys ≡ over ws xs → take n ys ≡ ws
@@ -75,34 +76,12 @@ content-small digit bs ds h =
     (λ k. omega (arith, total-short (length (bs ++ ds)) k))
     (cases-lt 15 (length (bs ++ ds) + 2))
 
-none-some : {t : ℕ} → _≡_ {A = Option ℕ} None (Some t) → ⊥
-none-some h = let z : _≡_ {A = ℕ} 0 1 = cc in omega arith
+-- the answer, by the lengths of address and data
+pub delivered-framed : (digit : ℕ) (bs ds : List ℕ) (room : ℕ) (r : Result ℕ Fault) → r ≡ delivered (total-length (length bs + length ds)) room → r ≡ delivered (length (framed digit (bs ++ ds))) room
+delivered-framed digit bs ds room r h = h ∙ ap (λ t. delivered t room) (sym (framed-length digit (bs ++ ds) ∙ ap total-length (length-append bs ds)))
 
-same-some : (t u : ℕ) → _≡_ {A = Option ℕ} (Some t) (Some u) → t ≡ u
-same-some t u h = cc
-
--- the answer, by the length that is known before the frame is written
-
-pub frame-none : (digit : ℕ) (bs ds : List ℕ) → None ≡ frame-length (length bs + length ds) → 238 < length (framed digit (bs ++ ds))
-frame-none digit bs ds h =
-    let n = length-append bs ds in
-    let e : length (framed digit (bs ++ ds)) ≡ total-length (length bs + length ds) = framed-length digit (bs ++ ds) ∙ ap total-length n in
-    ⊎-elim (λ k. omega arith) (λ k. absurd (none-some (h ∙ cond-false _ _ _ (le-ltb 238 (total-length (length bs + length ds)) k)))) (cases-lt 238 (total-length (length bs + length ds)))
-
-pub frame-some : (digit t : ℕ) (bs ds : List ℕ) → Some t ≡ frame-length (length bs + length ds) → (t ≡ length (framed digit (bs ++ ds))) × (t ≤ 238)
-frame-some digit t bs ds h =
-    let n = length-append bs ds in
-    let e : length (framed digit (bs ++ ds)) ≡ total-length (length bs + length ds) = framed-length digit (bs ++ ds) ∙ ap total-length n in
-    ⊎-elim
-    (λ k. absurd (none-some (sym (h ∙ cond-true _ _ _ (lt-ltb 238 (total-length (length bs + length ds)) k)))))
-    (λ k. let q = same-some t _ (h ∙ cond-false _ _ _ (le-ltb 238 (total-length (length bs + length ds)) k)) in (omega arith, omega arith))
-    (cases-lt 238 (total-length (length bs + length ds)))
-
-pub too-long : (f : Fault) (fs : List ℕ) (room : ℕ) → f ≡ fault NoFrame → 238 < length fs → Err f ≡ delivered fs room
-too-long f fs room e h = ap Err e ∙ sym (cond-true _ _ _ (lt-ltb 238 (length fs) h))
-
-pub no-room : (f : Fault) (fs : List ℕ) (room : ℕ) → f ≡ fault BufferTooShort → length fs ≤ 238 → room < length fs → Err f ≡ delivered fs room
-no-room f fs room e h k = ap Err e ∙ sym (cond-false _ _ _ (le-ltb 238 (length fs) h) ∙ cond-true _ _ _ (lt-ltb room (length fs) k))
-
-pub sent : (n : ℕ) (fs : List ℕ) (room : ℕ) → n ≡ length fs → length fs ≤ 238 → length fs ≤ room → Ok n ≡ delivered fs room
-sent n fs room e h k = ap Ok e ∙ sym (cond-false _ _ _ (le-ltb 238 (length fs) h) ∙ cond-false _ _ _ (le-ltb room (length fs) k))
+pub deliverable : (total room n : ℕ) → Ok n ≡ delivered total room → (n ≡ total) × (total ≤ 238) × (total ≤ room)
+deliverable total room n h =
+    let p = passed (ltb 238 total) (fault NoFrame) _ n (sym h) in
+    let q = passed (ltb room total) (fault BufferTooShort) _ n (p .1) in
+    (sym (same-answer _ _ (q .1)), ltb-false 238 total (p .0), ltb-false room total (q .0))

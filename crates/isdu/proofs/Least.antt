@@ -5,16 +5,16 @@ use mathlib.Core.Bool.{Bool, true, false, not}
 use mathlib.Core.List.{List, [], _∷_, _++_}
 use Prim.Native.Nat.{ℕ, suc, _+_, _<_, _≤_}
 use native.Mathlib.Omega.{arith}
-use lib.Dec.{eqb, ltb}
+use lib.Dec.{eqb}
 use lib.ListN.{length, getD}
 use Rattle.octets.specs.Buffers.{left}
 use Rattle.std.proofs.shelf.Lists.{append-assoc, length-append, length-push}
-use Rattle.std.proofs.shelf.Tests.{cond-true, cond-false, le-ltb, lt-ltb, ltb-false, eq-eqb, ne-eqb, eqb-true, cases-lt, cases-eq, and-parts, and-from, true≢false}
+use Rattle.std.proofs.shelf.Tests.{cond-true, cond-false, le-ltb, lt-ltb, eq-eqb, ne-eqb, eqb-true, cases-lt, cases-eq, and-parts, and-from, true≢false}
 use Rattle.std.specs.Vec.{made}
 use Rattle.std.specs.declared.result.Result.{Result}
 use Rattle.std.specs.declared.result.Result.the-variants.{Ok, Err}
 use Rattle.faults.specs.declared.Fault.{Fault}
-use Rattle.faults.specs.declared.Denial.the-variants.{NoFrame, BufferTooShort}
+use Rattle.faults.specs.declared.Denial.the-variants.{NoFrame}
 use Rattle.faults.specs.Denials.{fault}
 use Rattle.isdu.specs.declared.Direction.{Direction}
 use Rattle.isdu.specs.declared.Direction.the-variants.{Read, Write}
@@ -28,11 +28,11 @@ use Rattle.isdu.specs.Decoding.{fits-service, decoded}
 use Rattle.isdu.specs.Composing.{heading, addressing-of, content-of, frame-of, total-length, delivered, composed}
 use Rattle.isdu.specs.Layout.{Lengths, Addresses, Carries, Laid}
 use Rattle.isdu.specs.Promises.{Octets, ReadsBack, Shortest, Recomposes}
-use Rattle.isdu.proofs.Answered.{passed, met, same-answer}
+use Rattle.isdu.proofs.Answered.{met}
 use Rattle.isdu.proofs.Balance.{checked-balanced}
 use Rattle.isdu.proofs.Frames.{heading-short, heading-long, total-short, total-long, framed-length}
 use Rattle.isdu.proofs.Agreement.{laid-decodes, decodes-laid, carried-fits}
-use Rattle.isdu.proofs.Buffers.{over-front, over-length}
+use Rattle.isdu.proofs.Buffers.{over-front, over-length, deliverable}
 
 -- the shortest addressing, by index and subindex
 
@@ -182,16 +182,12 @@ pub record Promised (m : Asked) (r : Result ℕ Fault) (ys : List ℕ) : Type 0 
 
 pub promised : (m : Asked) (r : Result ℕ Fault) (xs ys : List ℕ) → m .index < 65536 → r ≡ composed m (length xs) → ys ≡ left r (frame-of m) xs → Promised m r ys
 promised m (Ok n) xs ys w e b =
-    let f = met (fits-service (m .direction) false (m .octets)) (fault NoFrame) (delivered (frame-of m) (length xs)) n (sym e) in
-    let s = passed (ltb 238 (length (frame-of m))) (fault NoFrame) _ n (f .1) in
-    let t = passed (ltb (length xs) (length (frame-of m))) (fault BufferTooShort) _ n (s .1) in
-    let small = ltb-false 238 (length (frame-of m)) (s .0) in
-    let room = ltb-false (length xs) (length (frame-of m)) (t .0) in
-    let len : n ≡ length (frame-of m) = sym (same-answer _ _ (t .1)) in
+    let f = met (fits-service (m .direction) false (m .octets)) (fault NoFrame) (delivered (length (frame-of m)) (length xs)) n (sym e) in
+    let s = deliverable (length (frame-of m)) (length xs) n (sym (f .1)) in
     record {
-      within = omega (arith, over-length (frame-of m) xs room, ap length b);
-      reads-back = ap decoded (over-front (frame-of m) xs ys n len b) ∙ laid-decodes (frame-of m) m (frame-laid m w (f .0) small);
-      shortest = λ zs o d. omega (arith, laid-room zs m (decodes-laid zs m o d) .least);
+      within = omega (arith, over-length (frame-of m) xs (s .2), ap length b, s .0, s .2);
+      reads-back = ap decoded (over-front (frame-of m) xs ys n (s .0) b) ∙ laid-decodes (frame-of m) m (frame-laid m w (f .0) (s .1));
+      shortest = λ zs o d. omega (arith, laid-room zs m (decodes-laid zs m o d) .least, s .0);
     }
 promised m (Err f) xs ys w e b = record { within = tt; reads-back = tt; shortest = tt }
 

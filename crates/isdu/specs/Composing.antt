@@ -4,8 +4,6 @@ use mathlib.Core.List.{List, [], _∷_, _++_}
 use Prim.Native.Nat.{ℕ, _+_, _*_}
 use lib.Dec.{leb, ltb}
 use lib.ListN.{length}
-use Rattle.std.specs.declared.option.Option.{Option}
-use Rattle.std.specs.declared.option.Option.the-variants.{Some, None}
 use Rattle.std.specs.declared.result.Result.{Result}
 use Rattle.std.specs.declared.result.Result.the-variants.{Ok, Err}
 use Rattle.faults.specs.declared.Fault.{Fault}
@@ -31,9 +29,12 @@ shortest-heading digit size = cond (leb size 15) (heading false digit size) (hea
 abbrev pub total-length : ℕ → ℕ
 total-length content = cond (leb (content + 2) 15) (content + 2) (content + 2 + 1)
 
--- the same, unless it is over 238
-abbrev pub frame-length : ℕ → Option ℕ
-frame-length content = cond (ltb 238 (total-length content)) None (Some (total-length content))
+-- how many octets of a frame of that length go into a buffer: all of them, unless it is over 238 or the room is too short
+abbrev pub delivered : ℕ → ℕ → Result ℕ Fault
+delivered total room =
+    cond (ltb 238 total) (Err (fault NoFrame))
+    (cond (ltb room total) (Err (fault BufferTooShort))
+    (Ok total))
 
 -- the frame of a service: heading, content, check octet
 abbrev pub framed : ℕ → List ℕ → List ℕ
@@ -50,14 +51,7 @@ content-of asked = address-octets (addressing-of asked) (asked .index) (asked .s
 abbrev pub frame-of : Asked → List ℕ
 frame-of asked = framed (service-digit (asked .direction) (addressing-of asked)) (content-of asked)
 
--- how many octets of a frame go into a buffer with so much room: all of them, unless it is over 238 or the room too short
-abbrev pub delivered : List ℕ → ℕ → Result ℕ Fault
-delivered octets room =
-    cond (ltb 238 (length octets)) (Err (fault NoFrame))
-    (cond (ltb room (length octets)) (Err (fault BufferTooShort))
-    (Ok (length octets)))
-
 -- no frame holds a write without data or a read with data
 abbrev pub composed : Asked → ℕ → Result ℕ Fault
 composed asked room =
-    cond (fits-service (asked .direction) false (asked .octets)) (delivered (frame-of asked) room) (Err (fault NoFrame))
+    cond (fits-service (asked .direction) false (asked .octets)) (delivered (length (frame-of asked)) room) (Err (fault NoFrame))

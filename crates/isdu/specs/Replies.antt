@@ -24,7 +24,7 @@ read-reply octets = framed 0xD octets
 
 -- a reply to a read has data
 abbrev pub read-replied : List ℕ → ℕ → Result ℕ Fault
-read-replied octets room = cond (eqb (length octets) 0) (Err (fault NoFrame)) (delivered (read-reply octets) room)
+read-replied octets room = cond (eqb (length octets) 0) (Err (fault NoFrame)) (delivered (length (read-reply octets)) room)
 
 -- the digit of a refusal
 abbrev pub refusal-digit : Direction → ℕ

@@ -18,7 +18,7 @@ use faults::Fault;
 
 // Writes the shortest frame of a request whose data fits its service.
 fn send_request(request: &Request, out: &mut [u8]) -> Result<usize, Fault>
-    ensures answer { λ r. ⌜ r ≡ delivered (frame-of (asks (now (request .entry)))) (length (now (out .entry))) ⌝ }
+    ensures answer { λ r. ⌜ r ≡ delivered (length (frame-of (asks (now (request .entry))))) (length (now (out .entry))) ⌝ }
     ensures buffer { λ r. ⌜ now (out .exit) ≡ left r (frame-of (asks (now (request .entry)))) (now (out .entry)) ⌝ }
     ensures index { λ _. ⌜ now (request .entry) .index < 65536 ⌝ }
 {

@@ -10,7 +10,7 @@ ghost use Rattle.isdu.specs.Views.{fields-told, told};
 ghost use lib.ListN.{length};
 ghost use mathlib.Core.Path.{_≡_};
 use crate::Request;
-use crate::checks::exclusive_or;
+use crate::checks::has_check;
 use crate::services::Addressing;
 use crate::services::fits_service;
 use crate::services::service_of;
@@ -90,7 +90,7 @@ pub fn decode<'a>(frame: &'a [u8]) -> Result<Request<'a>, Fault>
     if stated_length(*first, rest) as usize != frame.len() {
         return Err(Fault::of(Denial::FrameLength));
     }
-    if exclusive_or(frame) != 0 {
+    if !has_check(frame) {
         return Err(Fault::of(Denial::CheckOctet));
     }
     let second = *first % 16 == 1;

@@ -12,7 +12,7 @@ use faults::Fault;
 
 // The reply to a write that was done.
 pub fn confirm_write(out: &mut [u8]) -> Result<usize, Fault>
-    ensures answer { λ r. ⌜ r ≡ delivered write-reply (length (now (out .entry))) ⌝ }
+    ensures answer { λ r. ⌜ r ≡ delivered (length write-reply) (length (now (out .entry))) ⌝ }
     ensures buffer { λ r. ⌜ now (out .exit) ≡ left r write-reply (now (out .entry)) ⌝ }
 {
     send(0x5, &[], &[], out)
@@ -41,7 +41,7 @@ fn refusal_digit(direction: Direction) -> u8
 
 // The reply to a request that is refused with an ErrorCode.
 pub fn refuse(direction: Direction, code: u16, out: &mut [u8]) -> Result<usize, Fault>
-    ensures answer { λ r. ⌜ r ≡ delivered (refusal direction code) (length (now (out .entry))) ⌝ }
+    ensures answer { λ r. ⌜ r ≡ delivered (length (refusal direction code)) (length (now (out .entry))) ⌝ }
     ensures buffer { λ r. ⌜ now (out .exit) ≡ left r (refusal direction code) (now (out .entry)) ⌝ }
 {
     let [high, low] = code.to_be_bytes();

@@ -1,7 +1,7 @@
 // A frame written into a lent buffer, part by part.
 ghost use Prim.Native.Nat.{_+_, _<_, _≤_};
 ghost use Rattle.isdu.specs.CheckOctet.{exclusive-or};
-ghost use Rattle.isdu.specs.Composing.{delivered, frame-length, framed, shortest-heading};
+ghost use Rattle.isdu.specs.Composing.{delivered, framed, shortest-heading, total-length};
 ghost use Rattle.octets.specs.Buffers.{left, over};
 ghost use lib.ListN.{drop, length, take};
 ghost use mathlib.Core.List.{[], _++_, _∷_};
@@ -45,19 +45,22 @@ fn put_check(out: &mut [u8], at: usize) -> usize
     put(out, at, &[check])
 }
 
-// The length of the frame of an address and data, unless it is over 238.
-fn frame_length(address: &[u8], data: &[u8]) -> Option<usize>
-    ensures { λ r. ⌜ r ≡ frame-length (length (now (address .entry)) + length (now («data» .entry))) ⌝ }
+// The length of the frame of an address and data, if there is such a frame and room for it.
+fn frame_length(address: &[u8], data: &[u8], room: usize) -> Result<usize, Fault>
+    ensures { λ r. ⌜ r ≡ delivered (total-length (length (now (address .entry)) + length (now («data» .entry)))) room ⌝ }
 {
     if address.len() > 238 || data.len() > 238 {
-        return None;
+        return Err(Fault::of(Denial::NoFrame));
     }
     let size = address.len() + data.len() + 2;
     let total = if size <= 15 { size } else { size + 1 };
     if total > 238 {
-        return None;
+        return Err(Fault::of(Denial::NoFrame));
     }
-    Some(total)
+    if total > room {
+        return Err(Fault::of(Denial::BufferTooShort));
+    }
+    Ok(total)
 }
 
 // Writes a frame for which there is room, and answers its length.
@@ -76,14 +79,9 @@ fn put_frame(out: &mut [u8], digit: u8, address: &[u8], data: &[u8]) -> usize
 // Writes the frame of a service, in its shortest form, over the front of the buffer and answers its length.
 pub(crate) fn send(digit: u8, address: &[u8], data: &[u8], out: &mut [u8]) -> Result<usize, Fault>
     requires { ⌜ digit < 16 ⌝ }
-    ensures answer { λ r. ⌜ r ≡ delivered (framed digit (now (address .entry) ++ now («data» .entry))) (length (now (out .entry))) ⌝ }
+    ensures answer { λ r. ⌜ r ≡ delivered (length (framed digit (now (address .entry) ++ now («data» .entry)))) (length (now (out .entry))) ⌝ }
     ensures buffer { λ r. ⌜ now (out .exit) ≡ left r (framed digit (now (address .entry) ++ now («data» .entry))) (now (out .entry)) ⌝ }
 {
-    let Some(total) = frame_length(address, data) else {
-        return Err(Fault::of(Denial::NoFrame));
-    };
-    if out.len() < total {
-        return Err(Fault::of(Denial::BufferTooShort));
-    }
+    frame_length(address, data, out.len())?;
     Ok(put_frame(out, digit, address, data))
 }
