@@ -5,3 +5,4 @@ mod Frames
 mod Buffers
 mod Agreement
 mod Least
+pub mod Callers
