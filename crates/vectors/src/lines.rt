@@ -1,4 +1,7 @@
 // The lines of the vectors: octets, `=` and what they must decode to.
+ghost use Rattle.std.specs.Vec.{made};
+ghost use mathlib.Core.List.{_++_};
+ghost use mathlib.Core.Path.{_≡_};
 use crate::hexadecimal::octets;
 use isdu::Direction;
 use std::alloc::AllocError;
@@ -48,7 +51,10 @@ pub(crate) impl<T: Drop> From<Refused<T>> for Unreadable as UnreadableFromRefuse
     }
 }
 
-fn halves<'a>(text: &'a str, between: &str) -> Result<(&'a str, &'a str), Unreadable> {
+// The text before and after the first place of another.
+fn halves<'a>(text: &'a str, between: &str) -> Result<(&'a str, &'a str), Unreadable>
+    ensures { λ r. ⌜ made r (λ both. now (text .entry) ≡ now (both .0) ++ (now (between .entry) ++ now (both .1))) ⌝ }
+{
     match text.split_once(between) {
         Some(both) => Ok(both),
         None => Err(Unreadable::Layout),
