@@ -2,16 +2,9 @@
 use mathlib.Core.Bool.{Bool, true, false, cond}
 use mathlib.Core.List.{List, [], _∷_, _++_}
 use Prim.Native.Nat.{ℕ, _+_}
-use lib.IntN.{ℤ}
-use mir.Syntax.{w8}
-use mir.Val.{ofZ}
 use Rattle.kinds.specs.Meaning.{Meaning, under}
 use Rattle.channels.specs.declared.reading.Reading.{Reading}
 use Rattle.channels.specs.declared.reading.Reading.the-variants.{Value, Below, Above, NoData}
-
--- the scale's octet, in two's complement
-abbrev pub scale-octet : ℤ → ℕ
-scale-octet scale = ofZ w8 scale
 
 module _ {V : Type 0} (m : Meaning V) where
   -- a value under the range counts as Below, over it as Above

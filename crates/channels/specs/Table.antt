@@ -1,8 +1,11 @@
 -- The channel table under a reading, and the octet of signals.
-use mathlib.Core.Bool.{Bool, true, false, cond}
+use mathlib.Core.Bool.{Bool, true, false, cond, _&&_}
 use mathlib.Core.List.{List, [], _∷_, _++_, map}
-use Prim.Native.Nat.{ℕ, _+_, _*_, min}
-use lib.ListN.{take, drop, replicate}
+use Prim.Native.Nat.{ℕ, zero, suc, _+_, _-_, _*_, min}
+use lib.Dec.{leb}
+use lib.ListN.{take, drop, replicate, set}
+use Rattle.std.specs.declared.option.Option.{Option}
+use Rattle.std.specs.declared.option.Option.the-variants.{Some, None}
 use Rattle.kinds.specs.Meaning.{Meaning}
 use Rattle.channels.specs.declared.reading.Reading.{Reading}
 use Rattle.channels.specs.declared.row.Row.{Row}
@@ -17,6 +20,12 @@ judged-rows m reading rows = map (judged m reading) rows
 abbrev pub packed : List Bool → ℕ
 packed [] = 0
 packed (b ∷ bs) = cond b 1 0 + 2 * packed bs
+
+-- what stands at a place of a list, counted from 0
+abbrev pub nth : {A : Type 0} → List A → ℕ → Option A
+nth [] k = None
+nth (x ∷ xs) zero = Some x
+nth (x ∷ xs) (suc k) = nth xs k
 
 module _ {V : Type 0} where
   -- the table has eight rows, of which the first `count` are channels
@@ -40,3 +49,15 @@ module _ {V : Type 0} where
 
   abbrev pub fresh-table : ℕ → V → V → Table V
   fresh-table count low high = record { rows = replicate 8 (fresh-row low high); count = count }
+
+  -- channels count from 1
+  abbrev pub has-channel : Table V → ℕ → Bool
+  has-channel t k = leb 1 k && leb k (rows-present t)
+
+  -- the row of a channel, if it is present
+  abbrev pub row-at : Table V → ℕ → Option (Row V)
+  row-at t k = cond (has-channel t k) (nth (t .rows) (k - 1)) None
+
+  -- the table with another row for a channel, if it is present
+  abbrev pub with-row : Table V → ℕ → Row V → Table V
+  with-row t k r = record { rows = cond (has-channel t k) (set (t .rows) (k - 1) r) (t .rows); count = t .count }

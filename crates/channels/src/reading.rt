@@ -1,5 +1,5 @@
 // A reading of the sensor: a value, or why there is none.
-ghost use Rattle.channels.specs.Readings.{block, block-length, counted, scale-octet, shown};
+ghost use Rattle.channels.specs.Readings.{block, block-length, counted, shown};
 ghost use Rattle.octets.specs.Buffers.{fitting, placed};
 ghost use mathlib.Core.Path.{_≡_};
 use kinds::kind::Kind;
@@ -55,17 +55,16 @@ impl<K: Kind> Reading<K> {
     }
 
     // Writes process data: the reading, the scale, the octet of signals. Without room it writes nothing.
-    pub fn show(self, scale: i8, signals: u8, out: &mut [u8]) -> Option<usize>
-        ensures answer { λ r. ⌜ r ≡ fitting (block meaning self (scale-octet scale) signals) (now (out .entry)) ⌝ }
-        ensures buffer { λ _. ⌜ now (out .exit) ≡ placed (block meaning self (scale-octet scale) signals) (now (out .entry)) ⌝ }
+    pub fn show(self, scale: u8, signals: u8, out: &mut [u8]) -> Option<usize>
+        ensures answer { λ r. ⌜ r ≡ fitting (block meaning self scale signals) (now (out .entry)) ⌝ }
+        ensures buffer { λ _. ⌜ now (out .exit) ≡ placed (block meaning self scale signals) (now (out .entry)) ⌝ }
     {
         let width = K::width();
         if out.len() < block_length::<K>() {
             return None;
         }
         let _ = self.write(out);
-        let [octet] = scale.to_be_bytes();
-        out[width] = octet;
+        out[width] = scale;
         out[width + 1] = signals;
         Some(width + 2)
     }

@@ -6,14 +6,14 @@ use kinds::kind::Kind;
 
 #[derive(Clone, Copy)]
 pub struct Row<K> {
-    pub sp1: K,
-    pub sp2: K,
     pub hysteresis: u16,
     // 0 or 1: whether the signal is inverted.
     pub logic: u8,
     // 0 Deactivated, 1 Single Point, 2 Window, 3 Two Point.
     pub mode: u8,
     pub active: bool,
+    pub sp1: K,
+    pub sp2: K,
 }
 
 impl<K: Kind> Row<K> {

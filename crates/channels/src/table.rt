@@ -1,5 +1,5 @@
 // The channel table: rows of plain codes, of which the first `count` are present.
-ghost use Rattle.channels.specs.Table.{fresh-table, judged-table, present as present-rows, rows-present, signals-octet};
+ghost use Rattle.channels.specs.Table.{fresh-table, has-channel, judged-table, present as present-rows, row-at, rows-present, signals-octet, with-row};
 ghost use lib.ListN.{length};
 ghost use mathlib.Core.Path.{_≡_};
 use super::reading::Reading;
@@ -8,8 +8,8 @@ use kinds::kind::Kind;
 
 #[derive(Drop)]
 pub struct Table<K> {
-    pub rows: [Row<K>; 8],
     pub count: u8,
+    pub rows: [Row<K>; 8],
 }
 
 impl<K: Kind> Table<K> {
@@ -67,5 +67,34 @@ impl<K: Kind> Table<K> {
             }
         }
         signals
+    }
+
+    // Whether a channel is present; channels count from 1.
+    fn has(&self, channel: u8) -> bool
+        ensures present { λ r. ⌜ r ≡ has-channel (now (self .entry)) channel ⌝ }
+        ensures eight { λ _. ⌜ length (now (self .entry) .rows) ≡ 8 ⌝ }
+    {
+        let count = self.len();
+        channel >= 1 && channel as usize <= count
+    }
+
+    // The row of a channel, if it is present.
+    pub fn row(&self, channel: u8) -> Option<Row<K>>
+        ensures { λ r. ⌜ r ≡ row-at (now (self .entry)) channel ⌝ }
+    {
+        if self.has(channel) {
+            Some(self.rows[channel as usize - 1])
+        } else {
+            None
+        }
+    }
+
+    // Gives a channel another row; one that is not present stays away.
+    pub fn replace(&mut self, channel: u8, row: Row<K>)
+        ensures { λ _. ⌜ now (self .exit) ≡ with-row (now (self .entry)) channel row ⌝ }
+    {
+        if self.has(channel) {
+            self.rows[channel as usize - 1] = row;
+        }
     }
 }

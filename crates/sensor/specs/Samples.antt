@@ -16,11 +16,12 @@ use Rattle.faults.specs.Denials.{fault}
 use Rattle.kinds.specs.Meaning.{Meaning}
 use Rattle.channels.specs.declared.reading.Reading.{Reading}
 use Rattle.channels.specs.declared.reading.Reading.the-variants.{Value, Below, Above, NoData}
-use Rattle.channels.specs.Readings.{block, block-length, counted, scale-octet}
+use Rattle.channels.specs.Readings.{block, block-length, counted}
 use Rattle.channels.specs.Table.{judged-table, signals-octet}
 use Rattle.sensor.specs.declared.device.Device.{Device}
 use Rattle.sensor.specs.declared.sensor.Sensor.{Sensor}
-use Rattle.sensor.specs.Devices.{with-channels}
+use Rattle.teach.specs.Teaching.{fed-store, fed-teach}
+use Rattle.sensor.specs.Devices.{stored, with-channels, with-teach}
 
 module _ {V : Type 0} (m : Meaning V) where
   abbrev valued : Option V → Option (Reading V)
@@ -39,12 +40,22 @@ module _ {V : Type 0} (m : Meaning V) where
   counted-in d r = counted m (d .low) (d .high) r
 
   -- every channel is judged by its settings before the call
-  abbrev pub sampled : Device V → Reading V → Device V
-  sampled d r = with-channels d (judged-table m (counted-in d r) (d .channels))
+  abbrev pub judged-device : Device V → Reading V → Device V
+  judged-device d r = with-channels d (judged-table m (counted-in d r) (d .channels))
 
-  -- the process data that follows
+  -- then a value feeds the teach, and what it completes is stored; nothing else is captured or counted
+  abbrev pub fed-device : Device V → Reading V → Device V
+  fed-device d (Value v) = stored (with-teach d (fed-teach m (d .terms) (d .teach) v)) (fed-store m (d .terms) (d .teach) v)
+  fed-device d Below = d
+  fed-device d Above = d
+  fed-device d NoData = d
+
+  abbrev pub sampled : Device V → Reading V → Device V
+  sampled d r = fed-device (judged-device d r) (counted-in d r)
+
+  -- the process data: the signals are those that the judging left
   abbrev pub process-data : Device V → Reading V → List ℕ
-  process-data d r = block m (counted-in d r) (scale-octet (d .scale)) (signals-octet (sampled d r .channels))
+  process-data d r = block m (counted-in d r) (d .scale) (signals-octet (judged-device d r .channels))
 
   -- 6: the buffer is too short
   abbrev pub device-reply : List ℕ → Result ℕ Fault

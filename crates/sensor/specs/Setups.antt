@@ -2,6 +2,9 @@
 use mathlib.Core.Bool.{Bool, true, false, not, cond, _&&_, _||_}
 use Prim.Native.Nat.{ℕ}
 use lib.Dec.{leb}
+use lib.IntN.{ℤ}
+use mir.Syntax.{w8}
+use mir.Val.{ofZ}
 use Rattle.std.specs.declared.option.Option.{Option}
 use Rattle.std.specs.declared.option.Option.the-variants.{Some, None}
 use Rattle.std.specs.declared.result.Result.{Result}
@@ -11,6 +14,8 @@ use Rattle.faults.specs.declared.Denial.the-variants.{SetupUnderKeypad, Channel
 use Rattle.faults.specs.Denials.{fault}
 use Rattle.kinds.specs.Meaning.{Meaning, atMost, under}
 use Rattle.channels.specs.Table.{fresh-table}
+use Rattle.teach.specs.declared.terms.Terms.{Terms}
+use Rattle.teach.specs.Teaching.{idle}
 use Rattle.sensor.specs.declared.setup.Setup.{Setup}
 use Rattle.sensor.specs.declared.device.Device.{Device}
 use Rattle.sensor.specs.declared.sensor.Sensor.{Sensor}
@@ -18,6 +23,13 @@ use Rattle.sensor.specs.declared.sensor.Sensor.{Sensor}
 -- from the first number to the last
 abbrev pub from-to : ℕ → ℕ → ℕ → Bool
 from-to first last n = leb first n && leb n last
+
+-- the scale's octet, in two's complement
+abbrev pub scale-octet : ℤ → ℕ
+scale-octet scale = ofZ w8 scale
+
+abbrev pub terms-of : Setup → Terms
+terms-of g = record { capture = g .capture; spread = g .spread; distance = g .distance }
 
 module _ {V : Type 0} where
   abbrev open-in : Option (Device V) → Bool
@@ -28,17 +40,17 @@ module _ {V : Type 0} where
   abbrev pub keypad-open : Sensor V → Bool
   keypad-open s = open-in (s .device)
 
-  -- the device on its first day: every channel fresh, no keypad operation open
+  -- the device on its first day: every channel fresh, channel 1 selected, the teach idle, no keypad operation open
   abbrev pub fresh-device : Setup → V → V → Device V
   fresh-device g low high = record {
     serial = g .serial;
     low = low;
     high = high;
-    spread = g .spread;
-    distance = g .distance;
-    scale = g .scale;
-    capture = g .capture;
+    scale = scale-octet (g .scale);
     keypad = false;
+    selected = 1;
+    terms = terms-of g;
+    teach = idle;
     channels = fresh-table (g .channels) low high;
   }
 

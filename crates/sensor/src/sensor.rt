@@ -12,6 +12,8 @@ use channels::table::Table;
 use faults::Denial;
 use faults::Fault;
 use kinds::kind::Kind;
+use teach::teaching::Teach;
+use teach::terms::Terms;
 
 // A sensor; without a device it is blank.
 #[derive(Drop)]
@@ -57,15 +59,20 @@ fn decode_reading<K: Kind>(reading: Reading<&[u8]>) -> Option<Reading<K>>
 fn fresh<K: Kind>(setup: &Setup, low: K, high: K) -> Device<K>
     ensures { λ r. ⌜ r ≡ fresh-device (now (setup .entry)) low high ⌝ }
 {
+    let [scale] = setup.scale.to_be_bytes();
     Device {
         serial: setup.serial,
         low,
         high,
-        spread: setup.spread,
-        distance: setup.distance,
-        scale: setup.scale,
-        capture: setup.capture,
+        scale,
         keypad: false,
+        selected: 1,
+        terms: Terms {
+            capture: setup.capture,
+            spread: setup.spread,
+            distance: setup.distance,
+        },
+        teach: Teach::idle(),
         channels: Table::fresh(setup.channels, low, high),
     }
 }

@@ -5,9 +5,9 @@ use kinds::kind::Kind;
 
 #[derive(Clone, Copy)]
 pub struct Captured<K> {
+    pub count: u8,
     pub lowest: K,
     pub highest: K,
-    pub count: u8,
 }
 
 // The lowest, the highest and the number of the values, once `v` is captured too.

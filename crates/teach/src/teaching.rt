@@ -22,13 +22,13 @@ use kinds::kind::Kind;
 
 #[derive(Clone, Copy)]
 pub struct Teach<K> {
-    pub state: State<K>,
     pub flags: Flags,
     // Which setpoints were taught since the last select.
     pub taught_sp1: bool,
     pub taught_sp2: bool,
     // Whether the last evaluation failed and no teach has begun since.
     pub failed: bool,
+    pub state: State<K>,
 }
 
 // A setpoint to store.

@@ -5,20 +5,16 @@ use mathlib.Core.Path.{_≡_, refl, sym, ap, _∙_}
 use native.Mathlib.Omega.{arith}
 use Prim.Native.Nat.{ℕ, _+_, _<_, _≤_}
 use lib.ListN.{length, length-append, set, getD}
-use mir.Syntax.{w8}
-use mir.Val.{ofZ}
-use Rattle.std.proofs.shelf.Signed.{toZ-ofZ}
-use Rattle.octets.specs.Buffers.{over}
 use Rattle.octets.proofs.Rooms.{fitting-room, fitting-none, placed-room, placed-none}
 use Rattle.std.specs.declared.option.Option.the-variants.{Some}
-use Rattle.channels.specs.Readings.{shown, block, scale-octet}
+use Rattle.channels.specs.Readings.{shown, block}
 use Rattle.channels.proofs.Blocks.{block-long, shown-wide, two-behind}
 use Rattle.channels.proofs.reading.Reading.show.Needs as need
 
 pub returns-then-out-block-length : need.returns-then-out-block-length
 returns-then-out-block-length g c =
-    let bs = block (g .K·Kind .meaning) (c .args .self) (scale-octet (c .args .scale)) (c .args .signals) in
-    let e = block-long (g .K·Kind .meaning) (g .K·Kind·met .lawful) (c .args .self) (scale-octet (c .args .scale)) (c .args .signals) in
+    let bs = block (g .K·Kind .meaning) (c .args .self) (c .args .scale) (c .args .signals) in
+    let e = block-long (g .K·Kind .meaning) (g .K·Kind·met .lawful) (c .args .self) (c .args .scale) (c .args .signals) in
     let h : length (c .args .out .now) < length bs = omega (arith, e, c .width-width .ensures, c .block-length .ensures) in
     record { answer = fitting-none bs (c .args .out .now) h; buffer = placed-none bs (c .args .out .now) h }
 
@@ -28,7 +24,7 @@ returns g c =
     let l = g .K·Kind·met .lawful in
     let out = c .args .out .now in
     let ws = shown m (c .args .self) in
-    let a = scale-octet (c .args .scale) in
+    let a = c .args .scale in
     let b = c .args .signals in
     let bs = block m (c .args .self) a b in
     let e = block-long m l (c .args .self) a b in
@@ -39,8 +35,7 @@ returns g c =
     record {
       answer = ap Some (ap (λ n. n + 2) (c .width-width .ensures) ∙ sym e) ∙ fitting-room bs out h;
       buffer =
-          (λ i. set (set ((c .write .ensures .buffer ∙ sym (placed-room ws out k)) i) (c .width-width .result) (ap (λ xs. getD xs 0 0) (c .to-be-bytes .ensures) i)) (c .width-width .result + 1) b)
-          ∙ ap (λ z. set (set (over ws out) (c .width-width .result) (ofZ w8 z)) (c .width-width .result + 1) b) (toZ-ofZ w8 (c .args .scale) (c .fits .scale))
+          (λ i. set (set ((c .write .ensures .buffer ∙ sym (placed-room ws out k)) i) (c .width-width .result) a) (c .width-width .result + 1) b)
           ∙ two-behind ws out (c .width-width .result) a b w n
           ∙ placed-room bs out h;
     }

@@ -7,9 +7,6 @@ use native.Mathlib.Omega.{arith}
 use Prim.Native.Nat.{ℕ, _<_, _≤_}
 use lib.Dec.{ltb}
 use lib.ListN.{length}
-use mir.Syntax.{w8}
-use mir.Val.{SFits, toZ, ofZ}
-use Rattle.std.proofs.shelf.Signed.{toZ-ofZ}
 use Rattle.std.specs.Options.{okOr}
 use Rattle.std.specs.declared.option.Option.the-variants.{Some}
 use Rattle.std.specs.declared.result.Result.{Result}
@@ -19,11 +16,11 @@ use Rattle.octets.proofs.Rooms.{fitting-room, placed-room}
 use Rattle.faults.specs.declared.Fault.{Fault}
 use Rattle.faults.specs.declared.Denial.the-variants.{BufferTooShort}
 use Rattle.faults.specs.Denials.{fault}
-use Rattle.channels.specs.Readings.{block, block-length, scale-octet}
+use Rattle.channels.specs.Readings.{block, block-length}
 use Rattle.channels.specs.Table.{signals-octet, judged-table}
 use Rattle.channels.proofs.Blocks.{block-long}
 use Rattle.sensor.specs.Devices.{with-channels}
-use Rattle.sensor.specs.Samples.{counted-in, sampled, process-data}
+use Rattle.sensor.specs.Samples.{counted-in, fed-device, judged-device, sampled, process-data}
 use Rattle.sensor.proofs.device.Device.sample.Needs as need
 
 abbrev short : Result ℕ Fault
@@ -56,13 +53,12 @@ returns g c =
     let h : n ≤ length out = omega (arith, c .block-length .ensures) in
     let t = le-ltb (length out) n h in
     let counted-is : c .within-reading .result ≡ counted-in m d r = c .within-reading .ensures in
-    let table-is : c .pass-signals .last .self ≡ sampled m d r .channels =
+    let table-is : c .pass-signals .last .self ≡ judged-device m d r .channels =
     c .pass-signals .ensures .table ∙ ap (λ x. judged-table m x (d .channels)) counted-is in
-    let signals-is : c .pass-signals .result ≡ signals-octet (sampled m d r .channels) = c .pass-signals .ensures .signals ∙ ap signals-octet table-is in
-    let scale-fits : SFits w8 (d .scale) = search needs in
-    let block-shown : block m (c .within-reading .result) (scale-octet (toZ w8 (ofZ w8 (d .scale)))) (c .pass-signals .result) ≡ block-is =
-    λ i. block m (counted-is i) (scale-octet (toZ-ofZ w8 (d .scale) scale-fits i)) (signals-is i) in
-    let long : length block-is ≡ n = block-long m l (counted-in m d r) (scale-octet (d .scale)) (signals-octet (sampled m d r .channels)) in
+    let signals-is : c .pass-signals .result ≡ signals-octet (judged-device m d r .channels) = c .pass-signals .ensures .signals ∙ ap signals-octet table-is in
+    let block-shown : block m (c .within-reading .result) (d .scale) (c .pass-signals .result) ≡ block-is =
+    λ i. block m (counted-is i) (d .scale) (signals-is i) in
+    let long : length block-is ≡ n = block-long m l (counted-in m d r) (d .scale) (signals-octet (judged-device m d r .channels)) in
     let room : length block-is ≤ length out = omega (arith, long) in
     record {
       reply =
@@ -70,7 +66,7 @@ returns g c =
           ∙ ap (λ o. okOr o (c .of-2 .result)) (c .show .ensures .answer ∙ ap (λ bs. fitting bs out) block-shown ∙ sym (fitting-room block-is out room))
           ∙ ap Ok long
           ∙ sym (ap (λ (b : Bool). cond b short (Ok n)) t);
-      device = ap (with-channels d) table-is ∙ sym (ap (λ (b : Bool). cond b d (sampled m d r)) t);
+      device = c .feed .ensures ∙ (λ i. fed-device m (with-channels d (table-is i)) (counted-is i)) ∙ sym (ap (λ (b : Bool). cond b d (sampled m d r)) t);
       buffer =
           c .show .ensures .buffer
           ∙ ap (λ bs. placed bs out) block-shown
