@@ -70,7 +70,7 @@ impl<K: Kind> Table<K> {
     }
 
     // Whether a channel is present; channels count from 1.
-    fn has(&self, channel: u8) -> bool
+    pub fn has(&self, channel: u8) -> bool
         ensures present { λ r. ⌜ r ≡ has-channel (now (self .entry)) channel ⌝ }
         ensures eight { λ _. ⌜ length (now (self .entry) .rows) ≡ 8 ⌝ }
     {

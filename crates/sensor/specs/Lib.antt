@@ -1,3 +1,4 @@
 pub mod Devices
+pub mod Objects
 pub mod Samples
 pub mod Setups

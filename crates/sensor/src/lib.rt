@@ -1,4 +1,5 @@
-// One sensor: set-up, samples and process data.
+// One sensor: set-up, samples, requests and process data.
 pub mod device;
+pub mod object;
 pub mod sensor;
 pub mod setup;
