@@ -32,7 +32,7 @@ impl<K: Kind> Table<K> {
     }
 
     // How many rows are present.
-    fn len(&self) -> usize
+    pub fn len(&self) -> usize
         ensures count { λ r. ⌜ r ≡ rows-present (now (self .entry)) ⌝ }
         ensures eight { λ _. ⌜ length (now (self .entry) .rows) ≡ 8 ⌝ }
     {

@@ -1,1 +1,2 @@
+mod OneOctet
 mod Sizes

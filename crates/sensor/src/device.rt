@@ -31,7 +31,7 @@ pub struct Device<K> {
 
 impl<K: Kind> Device<K> {
     // Stores a setpoint that was taught, in the selected channel.
-    fn store(&mut self, store: Option<Store<K>>)
+    pub fn store(&mut self, store: Option<Store<K>>)
         ensures { λ _. ⌜ now (self .exit) ≡ stored (now (self .entry)) store ⌝ }
     {
         let Some(store) = store else {

@@ -82,13 +82,7 @@ impl Object {
     {
         match self {
             Object::SystemCommand | Object::TeachSelect | Object::TeachResult => 1,
-            Object::Setpoints(_) => {
-                if subindex == 0 {
-                    2 * width
-                } else {
-                    width
-                }
-            }
+            Object::Setpoints(_) => { if subindex == 0 { 2 * width } else { width } }
             Object::Configuration(_) => {
                 if subindex == 0 {
                     4

@@ -23,6 +23,12 @@ use Rattle.teach.specs.declared.terms.Terms.{Terms}
 use Rattle.teach.specs.Captures.{taken}
 use Rattle.teach.specs.Evaluation.{teachpoint-of}
 use Rattle.teach.specs.Machine.{Moved, moved, fed, full, row, with-point}
+use Rattle.std.specs.declared.result.Result.{Result}
+use Rattle.std.specs.declared.result.Result.the-variants.{Ok, Err}
+use Rattle.faults.specs.declared.Fault.{Fault}
+use Rattle.faults.specs.declared.Place.{Place}
+use Rattle.teach.specs.declared.teaching.Teach.{Teach}
+use Rattle.teach.specs.Teaching.{known, row-in, reply-of, reply-to, teach-of, teach-to, taken-reply, taken-teach}
 use Rattle.teach.specs.Promises.{is-busy, fed-all, Takes-exactly-C, Between, Stores-within, Captures-widen, Cancel-stores-nothing}
 
 abbrev counted : {V : Type 0} → Option (Captured V) → ℕ
@@ -105,3 +111,16 @@ module _ {V : Type 0} (m : Meaning V) (l : Lawful V m) (t : Terms) where
   cancel-stores-nothing f (WaitTwo sp p) c x h = let e : moved Idle (Clear sp) Open ≡ x = cc in ap (λ (y : Moved V). y .effect .verdict) (sym e)
   cancel-stores-nothing f (DynStart sp) c x h = absurd (let z : _≡_ {A = ℕ} 0 1 = cc in omega arith)
   cancel-stores-nothing f (WaitDyn sp lo hi) c x h = let e : moved Idle (Clear sp) Open ≡ x = cc in ap (λ (y : Moved V). y .effect .verdict) (sym e)
+
+-- ---- a command that is denied leaves the teach as it was
+module _ {V : Type 0} (m : Meaning V) (terms : Terms) (place : Place) (t : Teach V) where
+  row-denied : (x : Option (Moved V)) (f : Fault) → Err f ≡ reply-of m terms place x → teach-of m terms t x ≡ t
+  row-denied None f h = refl
+  row-denied (Some x) f h = absurd (let z : _≡_ {A = ℕ} 0 1 = cc in omega arith)
+
+  code-denied : (k : Result Command Fault) (f : Fault) → Err f ≡ reply-to m terms place t k → teach-to m terms t k ≡ t
+  code-denied (Err e) f h = refl
+  code-denied (Ok c) f h = row-denied (row-in m terms t c) f h
+
+  pub command-denied : (code : ℕ) (f : Fault) → Err f ≡ taken-reply m terms place t code → taken-teach m terms place t code ≡ t
+  command-denied code f h = code-denied (known place code) f h
