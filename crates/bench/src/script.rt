@@ -309,11 +309,11 @@ fn words(word: &str, rest: &str, heap: Global) -> Result<Line, Problem> {
 // What a line of a script asks for.
 pub fn read_line(heap: Global, text: &str) -> Result<Line, Problem> {
     let text = uncommented(text).trim();
-    if text.is_empty() {
+    let Some(word) = text.split_whitespace().next() else {
         return Ok(Line::Blank);
-    }
-    match text.split_once(' ') {
-        Some((word, rest)) => words(word, rest.trim(), heap),
+    };
+    match text.strip_prefix(word) {
+        Some(rest) => words(word, rest.trim(), heap),
         None => words(text, "", heap),
     }
 }

@@ -42,8 +42,9 @@ impl Session {
         let Some(mut section) = self.sections.pop() else {
             return Err(Problem::Expected("sensor int16, int32 or float32 as the first line"));
         };
-        section.steps.push(step)?;
+        let added = section.steps.push(step);
         self.sections.push(section)?;
+        added?;
         Ok(())
     }
 

@@ -30,7 +30,7 @@ mod tests {
         })
     }
 
-    // The signals, one after the other, that the values bring about: 1 for on, 0 for off.
+    // Whether the values, one after the other, bring about the expected signals.
     fn signals(mut row: Row<IntegerT16>, values: &[i16], expected: &[bool]) -> Result<(), Fail> {
         for (v, on) in values.iter().zip(expected) {
             row.judge(Reading::Value(value(*v)?));

@@ -129,7 +129,7 @@ impl<K: Kind> Sensor<K> {
         Ok(())
     }
 
-    // Judges every channel by the reading and writes process data. A denied sample changes and writes nothing.
+    // Judges every channel by the reading, feeds the teach and writes process data. A denied sample changes and writes nothing.
     pub fn sample(&mut self, reading: Reading<&[u8]>, out: &mut [u8]) -> Result<usize, Fault>
         ensures reply { λ r. ⌜ r ≡ sample-reply meaning (now (self .entry)) (reading .entry) (now (out .entry)) ⌝ }
         ensures sensor { λ _. ⌜ now (self .exit) ≡ sample-after meaning (now (self .entry)) (reading .entry) (now (out .entry)) ⌝ }
