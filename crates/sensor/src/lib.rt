@@ -2,6 +2,7 @@
 pub mod access;
 pub mod device;
 pub mod object;
+pub mod reads;
 pub mod sensor;
 pub mod setup;
 pub mod value;
