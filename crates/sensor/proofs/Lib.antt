@@ -1,2 +1,4 @@
 mod OneOctet
+mod Reading
 mod Sizes
+mod Writing

@@ -91,7 +91,7 @@ module _ {V : Type 0} (m : Meaning V) where
       (cond (eqb sub 1) (r .logic ∷ [])
       (cond (eqb sub 2) (r .mode ∷ []) (r .hysteresis / 256 ∷ r .hysteresis % 256 ∷ [])))
 
-  abbrev row-read : (Row V → List ℕ) → Option (Row V) → List ℕ
+  abbrev pub row-read : (Row V → List ℕ) → Option (Row V) → List ℕ
   row-read f None = []
   row-read f (Some r) = f r
 

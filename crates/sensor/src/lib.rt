@@ -3,6 +3,7 @@ pub mod access;
 pub mod device;
 pub mod object;
 pub mod reads;
+pub mod respond;
 pub mod sensor;
 pub mod setup;
 pub mod value;

@@ -1,5 +1,6 @@
 // The sensor and its calls.
 ghost use Rattle.sensor.specs.Devices.{channels-of};
+ghost use Rattle.sensor.specs.Requests.{request-after, request-buffer, request-reply};
 ghost use Rattle.sensor.specs.Samples.{decoded, sample-after, sample-buffer, sample-reply};
 ghost use Rattle.sensor.specs.Setups.{fresh-device, from-to, keypad-open, lawful-range, set-up-after, set-up-checked, set-up-reply};
 ghost use mathlib.Core.Path.{_≡_};
@@ -142,6 +143,19 @@ impl<K: Kind> Sensor<K> {
             return Err(Fault::of(Denial::NoValue));
         };
         device.sample(reading, out)
+    }
+
+    // Takes a request and writes the response. A denied request changes nothing; from the check of the index on, its
+    // negative response is written.
+    pub fn request(&mut self, frame: &[u8], out: &mut [u8]) -> Result<usize, Fault>
+        ensures reply { λ r. ⌜ r ≡ request-reply meaning (now (self .entry)) (now (frame .entry)) (now (out .entry)) ⌝ }
+        ensures sensor { λ _. ⌜ now (self .exit) ≡ request-after meaning (now (self .entry)) (now (frame .entry)) (now (out .entry)) ⌝ }
+        ensures buffer { λ _. ⌜ now (out .exit) ≡ request-buffer meaning (now (self .entry)) (now (frame .entry)) (now (out .entry)) ⌝ }
+    {
+        let Some(device) = &mut self.device else {
+            return Err(Fault::of(Denial::Blank));
+        };
+        device.request(frame, out)
     }
 
     // The channels, channel 1 first; none on a blank sensor.
