@@ -11,6 +11,7 @@ use super::script::Step;
 use super::session::Section;
 use channels::reading::Reading;
 use channels::row::Row;
+use faults::Fault;
 use kinds::kind::Kind;
 use sensor::sensor::Sensor;
 use sensor::setup::Setup;
@@ -91,6 +92,34 @@ fn sample<K: Kind>(
     }
 }
 
+// A denied request prints its negative response, if one was written.
+fn deny_request(rt: &LibcRuntime, fault: Fault, out: &[u8]) -> io::Result<()> {
+    let denied = Denied(fault);
+    if fault.denial.error_code().is_none() || out.len() < 4 {
+        return println!(rt, "request: {denied}");
+    }
+    let index = fault.index;
+    let subindex = fault.subindex;
+    let response = Spaced(&out[0..4]);
+    println!(rt, "request: {denied} {index}.{subindex}: {response}")
+}
+
+fn request<K: Kind>(rt: &LibcRuntime, sensor: &mut Sensor<K>, frame: &[u8], length: u16, tally: &mut Tally) -> io::Result<()> {
+    let mut out = vec![in rt.alloc(); 0u8; length as usize]?;
+    match sensor.request(frame, out.as_mut_slice()) {
+        Ok(n) => {
+            tally.accept();
+            out.truncate(n);
+            let octets = Spaced(out.as_slice());
+            println!(rt, "request: {octets}")
+        }
+        Err(fault) => {
+            tally.deny();
+            deny_request(rt, fault, out.as_slice())
+        }
+    }
+}
+
 fn show_row<K: Kind>(rt: &LibcRuntime, channel: usize, row: &Row<K>) -> io::Result<()> {
     let width = K::width().min(4);
     let mut sp1 = [0u8; 4];
@@ -130,6 +159,7 @@ pub fn run<K: Kind>(
         match step {
             Step::Setup(text) => set_up(rt, &mut sensor, text, tally)?,
             Step::Sample(text, length) => sample(rt, &mut sensor, text, *length, tally)?,
+            Step::Request(frame, length) => request(rt, &mut sensor, frame.as_slice(), *length, tally)?,
             Step::Show => show(rt, &sensor)?,
         }
     }

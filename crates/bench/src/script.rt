@@ -39,6 +39,8 @@ pub enum Step {
     Setup(SetupText),
     // A reading and the length of the buffer.
     Sample(ReadingText, u16),
+    // A frame and the length of the response buffer.
+    Request(Vec<u8>, u16),
     Show,
 }
 
@@ -273,6 +275,31 @@ fn sample(heap: Global, rest: &str) -> Result<Step, Problem> {
     Ok(Step::Sample(reading, buffer))
 }
 
+const REQUEST_FORM: &str = "request OCTETS, or -, then nothing or: into LENGTH";
+
+// Adds the octets of a word to those of a frame; `-` adds none.
+fn add_octets(heap: Global, frame: &mut Vec<u8>, word: &str) -> Result<(), Problem> {
+    let more = octets(heap, word)?;
+    frame.extend_from_slice(more.as_slice())?;
+    Ok(())
+}
+
+// Octets with free spaces between them, and the response buffer.
+fn request(heap: Global, rest: &str) -> Result<Step, Problem> {
+    let (octets_text, length) = match rest.split_once("into") {
+        Some((before, after)) => (before, number_u16(after.trim(), "a buffer length from 0 to 65535")?),
+        None => (rest, USUAL_BUFFER),
+    };
+    if octets_text.trim().is_empty() {
+        return Err(Problem::Expected(REQUEST_FORM));
+    }
+    let mut frame = Vec::new(heap);
+    for word in octets_text.split_whitespace() {
+        add_octets(heap, &mut frame, word)?;
+    }
+    Ok(Step::Request(frame, length))
+}
+
 fn kind(rest: &str) -> Result<KindName, Problem> {
     match rest {
         "int16" => Ok(KindName::Int16),
@@ -295,6 +322,7 @@ fn words(word: &str, rest: &str, heap: Global) -> Result<Line, Problem> {
         "sensor" => Ok(Line::Sensor(kind(rest)?)),
         "setup" => Ok(Line::Step(Step::Setup(setup(heap, rest)?))),
         "sample" => Ok(Line::Step(sample(heap, rest)?)),
+        "request" => Ok(Line::Step(request(heap, rest)?)),
         "show" => {
             if rest.is_empty() {
                 Ok(Line::Step(Step::Show))
@@ -302,7 +330,7 @@ fn words(word: &str, rest: &str, heap: Global) -> Result<Line, Problem> {
                 Err(Problem::Expected("show alone"))
             }
         }
-        _ => Err(Problem::Expected("sensor, setup, sample or show")),
+        _ => Err(Problem::Expected("sensor, setup, sample, request or show")),
     }
 }
 
