@@ -104,7 +104,13 @@ fn deny_request(rt: &LibcRuntime, fault: Fault, out: &[u8]) -> io::Result<()> {
     println!(rt, "request: {denied} {index}.{subindex}: {response}")
 }
 
-fn request<K: Kind>(rt: &LibcRuntime, sensor: &mut Sensor<K>, frame: &[u8], length: u16, tally: &mut Tally) -> io::Result<()> {
+fn request<K: Kind>(
+    rt: &LibcRuntime,
+    sensor: &mut Sensor<K>,
+    frame: &[u8],
+    length: u16,
+    tally: &mut Tally,
+) -> io::Result<()> {
     let mut out = vec![in rt.alloc(); 0u8; length as usize]?;
     match sensor.request(frame, out.as_mut_slice()) {
         Ok(n) => {
@@ -159,7 +165,13 @@ pub fn run<K: Kind>(
         match step {
             Step::Setup(text) => set_up(rt, &mut sensor, text, tally)?,
             Step::Sample(text, length) => sample(rt, &mut sensor, text, *length, tally)?,
-            Step::Request(frame, length) => request(rt, &mut sensor, frame.as_slice(), *length, tally)?,
+            Step::Request(frame, length) => request(
+                rt,
+                &mut sensor,
+                frame.as_slice(),
+                *length,
+                tally,
+            )?,
             Step::Show => show(rt, &sensor)?,
         }
     }

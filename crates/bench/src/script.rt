@@ -287,7 +287,10 @@ fn add_octets(heap: Global, frame: &mut Vec<u8>, word: &str) -> Result<(), Probl
 // Octets with free spaces between them, and the response buffer.
 fn request(heap: Global, rest: &str) -> Result<Step, Problem> {
     let (octets_text, length) = match rest.split_once("into") {
-        Some((before, after)) => (before, number_u16(after.trim(), "a buffer length from 0 to 65535")?),
+        Some((before, after)) => (
+            before,
+            number_u16(after.trim(), "a buffer length from 0 to 65535")?,
+        ),
         None => (rest, USUAL_BUFFER),
     };
     if octets_text.trim().is_empty() {
