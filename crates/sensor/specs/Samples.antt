@@ -39,9 +39,13 @@ module _ {V : Type 0} (m : Meaning V) where
   abbrev pub counted-in : Device V → Reading V → Reading V
   counted-in d r = counted m (d .low) (d .high) r
 
-  -- every channel is judged by its settings before the call
+  -- every channel is judged by its settings
+  abbrev pub judged-by : Device V → Reading V → Device V
+  judged-by d r = with-channels d (judged-table m r (d .channels))
+
+  -- by those before the call, as the range counts the reading
   abbrev pub judged-device : Device V → Reading V → Device V
-  judged-device d r = with-channels d (judged-table m (counted-in d r) (d .channels))
+  judged-device d r = judged-by d (counted-in d r)
 
   -- then a value feeds the teach, and what it completes is stored; nothing else is captured or counted
   abbrev pub fed-device : Device V → Reading V → Device V

@@ -1,6 +1,7 @@
 // What a sensor holds once it is set up.
+ghost use Rattle.channels.specs.Table.{signals-octet};
 ghost use Rattle.sensor.specs.Devices.{stored};
-ghost use Rattle.sensor.specs.Samples.{device-after, device-buffer, device-reply, fed-device};
+ghost use Rattle.sensor.specs.Samples.{device-after, device-buffer, device-reply, fed-device, judged-by};
 ghost use mathlib.Core.Path.{_≡_};
 use channels::reading::Reading;
 use channels::reading::block_length;
@@ -57,7 +58,17 @@ impl<K: Kind> Device<K> {
         }
     }
 
-    // Judges every channel by the reading, then feeds the teach, and writes process data.
+    // Judges every channel by its settings before the call, then feeds the teach. Answers the octet of signals.
+    fn judge_and_feed(&mut self, reading: Reading<K>) -> u8
+        ensures signals { λ r. ⌜ r ≡ signals-octet (judged-by meaning (now (self .entry)) reading .channels) ⌝ }
+        ensures device { λ _. ⌜ now (self .exit) ≡ fed-device meaning (judged-by meaning (now (self .entry)) reading) reading ⌝ }
+    {
+        let signals = self.channels.pass(reading);
+        self.feed(reading);
+        signals
+    }
+
+    // Judges every channel by the reading, feeds the teach, and writes process data.
     pub fn sample(&mut self, reading: Reading<K>, out: &mut [u8]) -> Result<usize, Fault>
         ensures reply { λ r. ⌜ r ≡ device-reply meaning (now (out .entry)) ⌝ }
         ensures device { λ _. ⌜ now (self .exit) ≡ device-after meaning (now (self .entry)) reading (now (out .entry)) ⌝ }
@@ -68,8 +79,7 @@ impl<K: Kind> Device<K> {
         }
         let scale = self.scale;
         let reading = reading.within(self.low, self.high);
-        let signals = self.channels.pass(reading);
-        self.feed(reading);
+        let signals = self.judge_and_feed(reading);
         reading
             .show(scale, signals, out)
             .ok_or(Fault::of(Denial::BufferTooShort))

@@ -152,10 +152,10 @@ impl<K: Kind> Sensor<K> {
         ensures sensor { λ _. ⌜ now (self .exit) ≡ request-after meaning (now (self .entry)) (now (frame .entry)) (now (out .entry)) ⌝ }
         ensures buffer { λ _. ⌜ now (out .exit) ≡ request-buffer meaning (now (self .entry)) (now (frame .entry)) (now (out .entry)) ⌝ }
     {
-        let Some(device) = &mut self.device else {
-            return Err(Fault::of(Denial::Blank));
-        };
-        device.request(frame, out)
+        match &mut self.device {
+            Some(device) => device.request(frame, out),
+            None => Err(Fault::of(Denial::Blank)),
+        }
     }
 
     // The channels, channel 1 first; none on a blank sensor.

@@ -20,7 +20,7 @@ use Rattle.channels.specs.Readings.{block, block-length}
 use Rattle.channels.specs.Table.{signals-octet, judged-table}
 use Rattle.channels.proofs.Blocks.{block-long}
 use Rattle.sensor.specs.Devices.{with-channels}
-use Rattle.sensor.specs.Samples.{counted-in, fed-device, judged-device, sampled, process-data}
+use Rattle.sensor.specs.Samples.{counted-in, fed-device, judged-by, judged-device, sampled, process-data}
 use Rattle.sensor.proofs.device.Device.sample.Needs as need
 
 abbrev short : Result ℕ Fault
@@ -53,10 +53,9 @@ returns g c =
     let h : n ≤ length out = omega (arith, c .block-length .ensures) in
     let t = le-ltb (length out) n h in
     let counted-is : c .within-reading .result ≡ counted-in m d r = c .within-reading .ensures in
-    let table-is : c .pass-signals .last .self ≡ judged-device m d r .channels =
-    c .pass-signals .ensures .table ∙ ap (λ x. judged-table m x (d .channels)) counted-is in
-    let signals-is : c .pass-signals .result ≡ signals-octet (judged-device m d r .channels) = c .pass-signals .ensures .signals ∙ ap signals-octet table-is in
-    let block-shown : block m (c .within-reading .result) (d .scale) (c .pass-signals .result) ≡ block-is =
+    let signals-is : c .judge-and-feed-signals .result ≡ signals-octet (judged-device m d r .channels) =
+    c .judge-and-feed-signals .ensures .signals ∙ ap (λ x. signals-octet (judged-by m d x .channels)) counted-is in
+    let block-shown : block m (c .within-reading .result) (d .scale) (c .judge-and-feed-signals .result) ≡ block-is =
     λ i. block m (counted-is i) (d .scale) (signals-is i) in
     let long : length block-is ≡ n = block-long m l (counted-in m d r) (d .scale) (signals-octet (judged-device m d r .channels)) in
     let room : length block-is ≤ length out = omega (arith, long) in
@@ -66,7 +65,7 @@ returns g c =
           ∙ ap (λ o. okOr o (c .of-2 .result)) (c .show .ensures .answer ∙ ap (λ bs. fitting bs out) block-shown ∙ sym (fitting-room block-is out room))
           ∙ ap Ok long
           ∙ sym (ap (λ (b : Bool). cond b short (Ok n)) t);
-      device = c .feed .ensures ∙ (λ i. fed-device m (with-channels d (table-is i)) (counted-is i)) ∙ sym (ap (λ (b : Bool). cond b d (sampled m d r)) t);
+      device = c .judge-and-feed-signals .ensures .device ∙ ap (λ x. fed-device m (judged-by m d x) x) counted-is ∙ sym (ap (λ (b : Bool). cond b d (sampled m d r)) t);
       buffer =
           c .show .ensures .buffer
           ∙ ap (λ bs. placed bs out) block-shown
