@@ -1,4 +1,6 @@
 // Runs a session script on a real sensor and prints what the sensor answered.
+#![tactic(auto)]
+
 mod printed;
 mod run;
 mod script;

@@ -1,4 +1,6 @@
 // Tests of judging and signals on worked cases.
+#![tactic(auto)]
+
 #[cfg(test)]
 mod tests {
     use channels::reading::Reading;

@@ -1,4 +1,6 @@
 // Switching channels: how a reading is judged, what each channel signals, and the process data.
+#![tactic(auto)]
+
 pub mod reading;
 pub mod row;
 pub mod table;

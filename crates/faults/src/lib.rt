@@ -1,4 +1,6 @@
 // The denials of the core, and the fault that tells of one.
+#![tactic(auto)]
+
 ghost use Rattle.faults.specs.Denials.{entry, fault, fault_at};
 ghost use Rattle.std.specs.Prelude.{◌≡◌};
 

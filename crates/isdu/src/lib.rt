@@ -1,4 +1,6 @@
 // ISDU requests and replies over octets that the caller lends.
+#![tactic(auto)]
+
 ghost use Rattle.isdu.specs.Examples.{Examples};
 
 mod checks;

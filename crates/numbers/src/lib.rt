@@ -1,4 +1,6 @@
 // The arithmetic behind the kinds of measured value: octets, whole numbers of a width, and floats.
+#![tactic(auto)]
+
 ghost use Rattle.numbers.specs.Floats as Floats;
 ghost use Rattle.numbers.specs.Octets as Octets;
 ghost use Rattle.std.specs.Prelude.{◌≡◌};

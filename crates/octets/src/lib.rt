@@ -1,4 +1,6 @@
 // Octets written to the front of a buffer that the caller lends.
+#![tactic(auto)]
+
 ghost use Rattle.octets.specs.Buffers.{fitting, placed};
 ghost use Rattle.std.specs.Prelude.{◌≡◌, length};
 

@@ -1,4 +1,6 @@
 // One sensor: set-up, samples, requests and process data.
+#![tactic(auto)]
+
 pub mod access;
 pub mod device;
 pub mod object;

@@ -1,4 +1,6 @@
 // One sensor: set-up, samples and process data, requests, keypad operations, warm restart.
+#![tactic(auto)]
+
 pub mod access;
 pub mod device;
 pub mod keypad;

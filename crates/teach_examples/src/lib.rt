@@ -1,4 +1,6 @@
 // Teaching, on worked cases.
+#![tactic(auto)]
+
 #[cfg(test)]
 mod tests {
     use faults::Place;

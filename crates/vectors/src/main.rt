@@ -1,4 +1,6 @@
 // Replays frames from standard input through `isdu` and compares what it does with what each line says.
+#![tactic(auto)]
+
 mod hexadecimal;
 mod lines;
 mod replays;

@@ -26,8 +26,8 @@ put-check-requires c = let p = parts c.args.digit c.args.address.now c.args.data
 pub returns : goal.returns
 returns c =
     let p = parts c.args.digit c.args.address.now c.args.data.now in
-    let w = four_writes _ _ _ c.args.out.now _ _ _ _ _ _ _ c.put-heading-at.ensures.end c.put-heading-at.ensures.buffer
-    c.put-at.ensures.end c.put-at.ensures.buffer c.put-at-2.ensures.end c.put-at-2.ensures.buffer c.put-check.ensures.buffer in
+    let w = four_writes _ _ _ c.args.out.now _ _ _ _ _ _ _ c.put_heading-at.ensures.end c.put_heading-at.ensures.buffer
+    c.put-at.ensures.end c.put-at.ensures.buffer c.put-at-2.ensures.end c.put-at-2.ensures.buffer c.put_check.ensures.buffer in
     record {
       end = omega (arith, p.long);
       buffer = w ∙ ap (λ us. over us c.args.out.now) (sym p.same);

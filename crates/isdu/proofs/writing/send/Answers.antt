@@ -19,10 +19,10 @@ put-frame-requires c =
 
 pub returns : goal.returns
 returns c =
-    let e = delivered_framed c.args.digit c.args.address.now c.args.data.now (length c.args.out.now) _ c.in-ok-frame-length.ensures in
+    let e = delivered_framed c.args.digit c.args.address.now c.args.data.now (length c.args.out.now) _ c.in_ok-frame_length.ensures in
     let total = length (framed c.args.digit (c.args.address.now ++ c.args.data.now)) in
     let d = deliverable total (length c.args.out.now) _ e in
     record {
-      answer = ap Ok (c.put-frame.ensures.end ∙ sym d.0) ∙ e;
-      buffer = c.put-frame.ensures.buffer;
+      answer = ap Ok (c.put_frame.ensures.end ∙ sym d.0) ∙ e;
+      buffer = c.put_frame.ensures.buffer;
     }
