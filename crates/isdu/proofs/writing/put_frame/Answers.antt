@@ -3,11 +3,11 @@ use Rattle.octets.specs.Buffers.{over}
 use Rattle.isdu.proofs.Buffers.{parts, content_small, four_writes}
 use Rattle.isdu.proofs.writing.put_frame.Goals as goal
 
-pub overflow-add-address-2 : goal.overflow-add-address-2
-overflow-add-address-2 c = omega (arith, content_small c.args.digit c.args.address.now c.args.data.now c.requires.small.1)
+pub overflow_add-address-2 : goal.overflow_add-address-2
+overflow_add-address-2 c = omega (arith, content_small c.args.digit c.args.address.now c.args.data.now c.requires.small.1)
 
-pub put-heading-at-requires : goal.put-heading-at-requires
-put-heading-at-requires c =
+pub put_heading-at-requires : goal.put_heading-at-requires
+put_heading-at-requires c =
     let p = parts c.args.digit c.args.address.now c.args.data.now in
     record {
       small = (omega arith, content_small c.args.digit c.args.address.now c.args.data.now c.requires.small.1);
@@ -20,8 +20,8 @@ put-at-requires c = let p = parts c.args.digit c.args.address.now c.args.data.no
 pub put-at-requires-2 : goal.put-at-requires-2
 put-at-requires-2 c = let p = parts c.args.digit c.args.address.now c.args.data.now in omega (arith, p.long)
 
-pub put-check-requires : goal.put-check-requires
-put-check-requires c = let p = parts c.args.digit c.args.address.now c.args.data.now in omega (arith, p.long)
+pub put_check-requires : goal.put_check-requires
+put_check-requires c = let p = parts c.args.digit c.args.address.now c.args.data.now in omega (arith, p.long)
 
 pub returns : goal.returns
 returns c =

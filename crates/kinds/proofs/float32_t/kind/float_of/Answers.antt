@@ -1,5 +1,5 @@
 use Rattle.numbers.proofs.Patterns.{pattern_of_number}
 use Rattle.kinds.proofs.float32_t.kind.float_of.Goals as goal
 
-pub float-from-bits-x : goal.float-from-bits-x
-float-from-bits-x c = pattern_of_number c.args.pattern c.requires
+pub float_from_bits-x : goal.float_from_bits-x
+float_from_bits-x c = pattern_of_number c.args.pattern c.requires

@@ -3,5 +3,5 @@ use Rattle.numbers.specs.Floats.{proper}
 use Rattle.numbers.proofs.Patterns.{million_is, million_proper}
 use Rattle.kinds.proofs.float32_t.kind.Float32TKind.HIGHEST_END.Goals as goal
 
-pub invariant-of-result : goal.invariant-of-result
-invariant-of-result c = (ap proper million_is ∙ million_proper, tt)
+pub invariant_of-result : goal.invariant_of-result
+invariant_of-result c = record { allowed = ap proper million_is ∙ million_proper }

@@ -3,5 +3,5 @@ use Rattle.numbers.specs.Floats.{proper}
 use Rattle.numbers.proofs.Patterns.{negated_million_is, minus_million_proper}
 use Rattle.kinds.proofs.float32_t.kind.Float32TKind.LOWEST_END.Goals as goal
 
-pub invariant-of-result : goal.invariant-of-result
-invariant-of-result c = (ap proper negated_million_is ∙ minus_million_proper, tt)
+pub invariant_of-result : goal.invariant_of-result
+invariant_of-result c = record { allowed = ap proper negated_million_is ∙ minus_million_proper }

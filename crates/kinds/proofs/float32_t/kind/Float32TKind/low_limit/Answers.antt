@@ -4,8 +4,8 @@ use Rattle.numbers.proofs.Patterns.{minus_million_is, minus_million_proper}
 use Rattle.kinds.specs.Same.{same_float}
 use Rattle.kinds.proofs.float32_t.kind.Float32TKind.low_limit.Goals as goal
 
-pub invariant-of-result : goal.invariant-of-result
-invariant-of-result c = (ap proper minus_million_is ∙ minus_million_proper, tt)
+pub invariant_of-result : goal.invariant_of-result
+invariant_of-result c = record { allowed = ap proper minus_million_is ∙ minus_million_proper }
 
 pub returns : goal.returns
 returns c = same_float _ _ minus_million_is

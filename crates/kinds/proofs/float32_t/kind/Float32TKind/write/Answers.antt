@@ -1,5 +1,5 @@
 use Rattle.numbers.proofs.Patterns.{value_number}
 use Rattle.kinds.proofs.float32_t.kind.Float32TKind.write.Goals as goal
 
-pub to-be-bytes-requires : goal.to-be-bytes-requires
-to-be-bytes-requires c = value_number c.args.self.value c.args.self.allowed
+pub to_be_bytes-requires : goal.to_be_bytes-requires
+to_be_bytes-requires c = value_number c.args.self.value c.args.self.allowed
