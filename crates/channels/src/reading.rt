@@ -16,7 +16,7 @@ pub enum Reading<T> {
 
 // How many octets process data has.
 pub fn block_length<K: Kind>() -> usize
-    ensures { result ≡ block_length {V = K} meaning }
+    ensures { result ≡ block_length {V = K} K.meaning }
 {
     K::width() + 2
 }
@@ -24,7 +24,7 @@ pub fn block_length<K: Kind>() -> usize
 impl<K: Kind> Reading<K> {
     // A value under the range counts as Below, one over it as Above.
     pub fn within(self, low: K, high: K) -> Reading<K>
-        ensures { result ≡ counted meaning low high self }
+        ensures { result ≡ counted K.meaning low high self }
     {
         match self {
             Reading::Value(v) => {
@@ -44,8 +44,8 @@ impl<K: Kind> Reading<K> {
 
     // Writes the octets of the value, or its substitute.
     fn write(self, out: &mut [u8]) -> Option<usize>
-        ensures answer { result ≡ fitting (shown meaning self) out.old }
-        ensures buffer { out.new ≡ placed (shown meaning self) out.old }
+        ensures answer { result ≡ fitting (shown K.meaning self) out.old }
+        ensures buffer { out.new ≡ placed (shown K.meaning self) out.old }
     {
         match self {
             Reading::Value(v) => v.write(out),
@@ -57,8 +57,8 @@ impl<K: Kind> Reading<K> {
 
     // Writes process data: the reading, the scale, the octet of signals. Without room it writes nothing.
     pub fn show(self, scale: u8, signals: u8, out: &mut [u8]) -> Option<usize>
-        ensures answer { result ≡ fitting (block meaning self scale signals) out.old }
-        ensures buffer { out.new ≡ placed (block meaning self scale signals) out.old }
+        ensures answer { result ≡ fitting (block K.meaning self scale signals) out.old }
+        ensures buffer { out.new ≡ placed (block K.meaning self scale signals) out.old }
     {
         let width = K::width();
         if out.len() < block_length::<K>() {

@@ -19,7 +19,7 @@ pub struct Row<K> {
 
 impl<K: Kind> Row<K> {
     fn lower_end(&self) -> K
-        ensures { result ≡ lower_end meaning self.now }
+        ensures { result ≡ lower_end K.meaning self.now }
     {
         if self.sp1.at_most(self.sp2) {
             self.sp1
@@ -29,7 +29,7 @@ impl<K: Kind> Row<K> {
     }
 
     fn higher_end(&self) -> K
-        ensures { result ≡ higher_end meaning self.now }
+        ensures { result ≡ higher_end K.meaning self.now }
     {
         if self.sp1.at_most(self.sp2) {
             self.sp2
@@ -39,7 +39,7 @@ impl<K: Kind> Row<K> {
     }
 
     fn turns_on(&self, v: K) -> bool
-        ensures { result ≡ activates meaning self.now v }
+        ensures { result ≡ activates K.meaning self.now v }
     {
         match self.mode {
             0 => false,
@@ -50,7 +50,7 @@ impl<K: Kind> Row<K> {
     }
 
     fn turns_off(&self, v: K) -> bool
-        ensures { result ≡ deactivates meaning self.now v }
+        ensures { result ≡ deactivates K.meaning self.now v }
     {
         match self.mode {
             0 => true,
@@ -65,7 +65,7 @@ impl<K: Kind> Row<K> {
 
     // Judges the row by a reading: only a value can change its state.
     pub fn judge(&mut self, reading: Reading<K>)
-        ensures { self.new ≡ judged meaning reading self.old }
+        ensures { self.new ≡ judged K.meaning reading self.old }
     {
         if let Reading::Value(v) = reading {
             if self.turns_on(v) {

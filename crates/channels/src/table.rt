@@ -56,7 +56,7 @@ impl<K: Kind> Table<K> {
 
     // Judges every channel by the reading, and answers the octet of the signals that follow.
     pub fn pass(&mut self, reading: Reading<K>) -> u8
-        ensures table { self.new ≡ judged_table meaning reading self.old }
+        ensures table { self.new ≡ judged_table K.meaning reading self.old }
         ensures signals { result ≡ signals_octet self.new }
     {
         let mut signals = 0;

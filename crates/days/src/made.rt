@@ -14,7 +14,7 @@ pub(crate) fn sample<K: Kind>(
     reading: Reading<&[u8]>,
     mut out: Vec<u8>,
 ) -> Reply
-    ensures sensor { sensor.new ≡ sample_after meaning sensor.old reading.entry out.items }
+    ensures sensor { sensor.new ≡ sample_after K.meaning sensor.old reading.entry out.items }
 {
     match sensor.sample(reading, out.as_mut_slice()) {
         Ok(n) => {

@@ -102,7 +102,7 @@ pub fn place(request: &Request) -> Place
 
 // The checks of a write: 14, 15 and 16.
 fn check_write<K: Kind>(request: &Request, object: Object, keypad: bool) -> Result<Object, Fault>
-    ensures { result ≡ write_checked {V = K} meaning keypad (asks request.now) object }
+    ensures { result ≡ write_checked {V = K} K.meaning keypad (asks request.now) object }
 {
     let length = object.length(K::width(), request.subindex);
     if request.data.len() > length {
@@ -119,7 +119,7 @@ fn check_write<K: Kind>(request: &Request, object: Object, keypad: bool) -> Resu
 
 // The checks of an object that is there: 12 and 13, and of a write 14, 15 and 16.
 fn check_object<K: Kind>(request: &Request, object: Object, keypad: bool) -> Result<Object, Fault>
-    ensures { result ≡ object_checked {V = K} meaning keypad (asks request.now) object }
+    ensures { result ≡ object_checked {V = K} K.meaning keypad (asks request.now) object }
 {
     if request.subindex > object.parts() {
         return Err(Fault::at(Denial::NoSubindex, place(request)));
@@ -135,7 +135,7 @@ fn check_object<K: Kind>(request: &Request, object: Object, keypad: bool) -> Res
 
 // The object that a request may reach: the checks 11 to 16. What a read reaches can be shown.
 pub fn access<K: Kind>(table: &Table<K>, keypad: bool, request: &Request) -> Result<Object, Fault>
-    ensures object { result ≡ access_checked meaning table.now keypad (asks request.now) }
+    ensures object { result ≡ access_checked K.meaning table.now keypad (asks request.now) }
     ensures readable { IfOk result (λ o. request.now.direction ≡ Read → Readable table.now o) }
 {
     match find_object(table, request.index) {

@@ -9,8 +9,8 @@ use octets::put;
 
 // Two values, one behind the other. Without room for both nothing is written.
 fn write_both<K: Kind>(a: K, b: K, out: &mut [u8]) -> Option<usize>
-    ensures answer { result ≡ fitting (meaning.octets a ++ meaning.octets b) out.old }
-    ensures buffer { out.new ≡ placed (meaning.octets a ++ meaning.octets b) out.old }
+    ensures answer { result ≡ fitting (K.meaning.octets a ++ K.meaning.octets b) out.old }
+    ensures buffer { out.new ≡ placed (K.meaning.octets a ++ K.meaning.octets b) out.old }
 {
     let width = K::width();
     if out.len() < 2 * width {
@@ -23,8 +23,8 @@ fn write_both<K: Kind>(a: K, b: K, out: &mut [u8]) -> Option<usize>
 
 // The setpoints of a row, or one of them.
 pub fn read_setpoints<K: Kind>(row: Row<K>, subindex: u8, out: &mut [u8]) -> Option<usize>
-    ensures answer { result ≡ fitting (setpoints_read meaning subindex row) out.old }
-    ensures buffer { out.new ≡ placed (setpoints_read meaning subindex row) out.old }
+    ensures answer { result ≡ fitting (setpoints_read K.meaning subindex row) out.old }
+    ensures buffer { out.new ≡ placed (setpoints_read K.meaning subindex row) out.old }
 {
     match subindex {
         0 => write_both(row.sp1, row.sp2, out),

@@ -37,7 +37,7 @@ fn check_code(code: u8, last: u8, place: Place) -> Result<u8, Fault>
 
 // A setpoint within the range.
 pub fn check_setpoint<K: Kind>(octets: &[u8], low: K, high: K, place: Place) -> Result<K, Fault>
-    ensures { result ≡ setpoint_checked meaning low high place octets.now }
+    ensures { result ≡ setpoint_checked K.meaning low high place octets.now }
 {
     let Some(v) = K::read(octets) else {
         return Err(Fault::at(Denial::NoValue, place));
@@ -69,7 +69,7 @@ fn both_setpoints<K: Kind>(
     high: K,
     place: Place,
 ) -> Result<Row<K>, Fault>
-    ensures { result ≡ whole_setpoints meaning low high place row octets.now }
+    ensures { result ≡ whole_setpoints K.meaning low high place row octets.now }
 {
     let (first, second) = halves(octets, K::width());
     row.sp1 = check_setpoint(first, low, high, part(place, 1))?;
@@ -85,7 +85,7 @@ pub fn write_setpoints<K: Kind>(
     high: K,
     place: Place,
 ) -> Result<Row<K>, Fault>
-    ensures { result ≡ setpoints_written meaning low high place row octets.now }
+    ensures { result ≡ setpoints_written K.meaning low high place row octets.now }
 {
     match place.subindex {
         0 => both_setpoints(row, octets, low, high, place),

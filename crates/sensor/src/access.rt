@@ -12,8 +12,8 @@ use teach::teaching::Teach;
 impl<K: Kind> Device<K> {
     // A command to the teach of the selected channel.
     fn command(&mut self, code: u8, place: Place) -> Result<(), Fault>
-        ensures reply { result ≡ write_reply_of (commanded meaning self.old place code) }
-        ensures device { self.new ≡ device_or self.old (commanded meaning self.old place code) }
+        ensures reply { result ≡ write_reply_of (commanded K.meaning self.old place code) }
+        ensures device { self.new ≡ device_or self.old (commanded K.meaning self.old place code) }
     {
         let store = self.teach.command(self.terms, code, place)?;
         self.store(store);
@@ -34,8 +34,8 @@ impl<K: Kind> Device<K> {
     }
 
     fn write_command(&mut self, place: Place, octets: &[u8]) -> Result<(), Fault>
-        ensures reply { result ≡ write_reply_of (written meaning self.old place Object.SystemCommand octets.now) }
-        ensures device { self.new ≡ device_or self.old (written meaning self.old place Object.SystemCommand octets.now) }
+        ensures reply { result ≡ write_reply_of (written K.meaning self.old place Object.SystemCommand octets.now) }
+        ensures device { self.new ≡ device_or self.old (written K.meaning self.old place Object.SystemCommand octets.now) }
     {
         if octets.len() == 1 {
             self.command(octets[0], place)
@@ -45,8 +45,8 @@ impl<K: Kind> Device<K> {
     }
 
     fn write_select(&mut self, place: Place, octets: &[u8]) -> Result<(), Fault>
-        ensures reply { result ≡ write_reply_of (written meaning self.old place Object.TeachSelect octets.now) }
-        ensures device { self.new ≡ device_or self.old (written meaning self.old place Object.TeachSelect octets.now) }
+        ensures reply { result ≡ write_reply_of (written K.meaning self.old place Object.TeachSelect octets.now) }
+        ensures device { self.new ≡ device_or self.old (written K.meaning self.old place Object.TeachSelect octets.now) }
     {
         if octets.len() == 1 {
             self.select(octets[0], place)
@@ -56,8 +56,8 @@ impl<K: Kind> Device<K> {
     }
 
     fn set_setpoints(&mut self, channel: u8, place: Place, octets: &[u8]) -> Result<(), Fault>
-        ensures reply { result ≡ write_reply_of (written meaning self.old place (Object.Setpoints channel) octets.now) }
-        ensures device { self.new ≡ device_or self.old (written meaning self.old place (Object.Setpoints channel) octets.now) }
+        ensures reply { result ≡ write_reply_of (written K.meaning self.old place (Object.Setpoints channel) octets.now) }
+        ensures device { self.new ≡ device_or self.old (written K.meaning self.old place (Object.Setpoints channel) octets.now) }
     {
         let Some(row) = self.channels.row(channel) else {
             return Ok(());
@@ -68,8 +68,8 @@ impl<K: Kind> Device<K> {
     }
 
     fn set_configuration(&mut self, channel: u8, place: Place, octets: &[u8]) -> Result<(), Fault>
-        ensures reply { result ≡ write_reply_of (written meaning self.old place (Object.Configuration channel) octets.now) }
-        ensures device { self.new ≡ device_or self.old (written meaning self.old place (Object.Configuration channel) octets.now) }
+        ensures reply { result ≡ write_reply_of (written K.meaning self.old place (Object.Configuration channel) octets.now) }
+        ensures device { self.new ≡ device_or self.old (written K.meaning self.old place (Object.Configuration channel) octets.now) }
     {
         let Some(row) = self.channels.row(channel) else {
             return Ok(());
@@ -81,8 +81,8 @@ impl<K: Kind> Device<K> {
 
     // Writes an object that passed the checks of its access. A denied write changes nothing.
     pub fn write(&mut self, object: Object, place: Place, octets: &[u8]) -> Result<(), Fault>
-        ensures reply { result ≡ write_reply_of (written meaning self.old place object octets.now) }
-        ensures device { self.new ≡ device_or self.old (written meaning self.old place object octets.now) }
+        ensures reply { result ≡ write_reply_of (written K.meaning self.old place object octets.now) }
+        ensures device { self.new ≡ device_or self.old (written K.meaning self.old place object octets.now) }
     {
         match object {
             Object::SystemCommand => self.write_command(place, octets),

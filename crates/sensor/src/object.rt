@@ -105,7 +105,7 @@ pub fn place(request: &Request) -> Place
 
 // The checks of a write: 14, 15 and 16.
 fn check_write<K: Kind>(request: &Request, object: Object, keypad: bool) -> Result<Object, Fault>
-    ensures { result ≡ write_checked {V = K} meaning keypad (asks request.now) object }
+    ensures { result ≡ write_checked {V = K} K.meaning keypad (asks request.now) object }
 {
     let length = object.length(K::width(), request.subindex);
     if request.data.len() > length {
@@ -122,7 +122,7 @@ fn check_write<K: Kind>(request: &Request, object: Object, keypad: bool) -> Resu
 
 // The checks of an object that is there: 12 and 13, and of a write 14, 15 and 16.
 fn check_object<K: Kind>(request: &Request, object: Object, keypad: bool) -> Result<Object, Fault>
-    ensures { result ≡ object_checked {V = K} meaning keypad (asks request.now) object }
+    ensures { result ≡ object_checked {V = K} K.meaning keypad (asks request.now) object }
 {
     if request.subindex > object.parts() {
         return Err(Fault::at(Denial::NoSubindex, place(request)));
@@ -139,7 +139,7 @@ fn check_object<K: Kind>(request: &Request, object: Object, keypad: bool) -> Res
 impl<K: Kind> Device<K> {
     // The object that a request may reach: the checks 11 to 16.
     pub fn access(&self, request: &Request) -> Result<Object, Fault>
-        ensures { result ≡ access_checked meaning self.now (asks request.now) }
+        ensures { result ≡ access_checked K.meaning self.now (asks request.now) }
     {
         match find_object(&self.channels, request.index) {
             Some(object) => check_object::<K>(request, object, self.keypad),

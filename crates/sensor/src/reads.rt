@@ -11,8 +11,8 @@ use octets::put;
 
 // Two values, one behind the other. Without room for both nothing is written.
 fn write_both<K: Kind>(a: K, b: K, out: &mut [u8]) -> Option<usize>
-    ensures answer { result ≡ fitting (meaning.octets a ++ meaning.octets b) out.old }
-    ensures buffer { out.new ≡ placed (meaning.octets a ++ meaning.octets b) out.old }
+    ensures answer { result ≡ fitting (K.meaning.octets a ++ K.meaning.octets b) out.old }
+    ensures buffer { out.new ≡ placed (K.meaning.octets a ++ K.meaning.octets b) out.old }
 {
     let width = K::width();
     if out.len() < 2 * width {
@@ -24,8 +24,8 @@ fn write_both<K: Kind>(a: K, b: K, out: &mut [u8]) -> Option<usize>
 }
 
 fn read_setpoints<K: Kind>(row: Row<K>, subindex: u8, out: &mut [u8]) -> Option<usize>
-    ensures answer { result ≡ fitting (setpoints_read meaning subindex row) out.old }
-    ensures buffer { out.new ≡ placed (setpoints_read meaning subindex row) out.old }
+    ensures answer { result ≡ fitting (setpoints_read K.meaning subindex row) out.old }
+    ensures buffer { out.new ≡ placed (setpoints_read K.meaning subindex row) out.old }
 {
     match subindex {
         0 => write_both(row.sp1, row.sp2, out),
@@ -35,8 +35,8 @@ fn read_setpoints<K: Kind>(row: Row<K>, subindex: u8, out: &mut [u8]) -> Option<
 }
 
 fn read_configuration<K: Kind>(row: Row<K>, subindex: u8, out: &mut [u8]) -> Option<usize>
-    ensures answer { result ≡ fitting (configuration_read {V = K} meaning subindex row) out.old }
-    ensures buffer { out.new ≡ placed (configuration_read {V = K} meaning subindex row) out.old }
+    ensures answer { result ≡ fitting (configuration_read {V = K} K.meaning subindex row) out.old }
+    ensures buffer { out.new ≡ placed (configuration_read {V = K} K.meaning subindex row) out.old }
 {
     let high = (row.hysteresis / 256) as u8;
     let low = (row.hysteresis % 256) as u8;
@@ -51,8 +51,8 @@ fn read_configuration<K: Kind>(row: Row<K>, subindex: u8, out: &mut [u8]) -> Opt
 impl<K: Kind> Device<K> {
     // Writes the octets of an object, or of a part of it, to the front of `out`.
     pub fn read(&self, object: Object, subindex: u8, out: &mut [u8]) -> Option<usize>
-        ensures answer { result ≡ fitting (read_octets meaning self.now object subindex) out.old }
-        ensures buffer { out.new ≡ placed (read_octets meaning self.now object subindex) out.old }
+        ensures answer { result ≡ fitting (read_octets K.meaning self.now object subindex) out.old }
+        ensures buffer { out.new ≡ placed (read_octets K.meaning self.now object subindex) out.old }
     {
         match object {
             Object::SystemCommand => put(&[], out),

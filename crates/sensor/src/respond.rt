@@ -28,8 +28,8 @@ fn deny(fault: Fault, direction: Direction, out: &mut [u8]) -> Result<usize, Fau
 impl<K: Kind> Device<K> {
     // The positive response to a read.
     fn show(&self, object: Object, subindex: u8, out: &mut [u8]) -> Result<usize, Fault>
-        ensures reply { result ≡ read_replied (read_octets meaning self.now object subindex) (length out.old) }
-        ensures buffer { out.new ≡ left result (read_reply (read_octets meaning self.now object subindex)) out.old }
+        ensures reply { result ≡ read_replied (read_octets K.meaning self.now object subindex) (length out.old) }
+        ensures buffer { out.new ≡ left result (read_reply (read_octets K.meaning self.now object subindex)) out.old }
     {
         let mut octets = [0u8; 8];
         let n = self.read(object, subindex, &mut octets).unwrap_or(0).min(8);
@@ -37,9 +37,9 @@ impl<K: Kind> Device<K> {
     }
 
     fn perform(&mut self, request: &Request, object: Object, out: &mut [u8]) -> Result<usize, Fault>
-        ensures reply { result ≡ (object_answered meaning request.now.direction self.old (asks request.now) out.old object).reply }
-        ensures device { self.new ≡ (object_answered meaning request.now.direction self.old (asks request.now) out.old object).device }
-        ensures buffer { out.new ≡ (object_answered meaning request.now.direction self.old (asks request.now) out.old object).buffer }
+        ensures reply { result ≡ (object_answered K.meaning request.now.direction self.old (asks request.now) out.old object).reply }
+        ensures device { self.new ≡ (object_answered K.meaning request.now.direction self.old (asks request.now) out.old object).device }
+        ensures buffer { out.new ≡ (object_answered K.meaning request.now.direction self.old (asks request.now) out.old object).buffer }
     {
         match request.direction {
             Direction::Read => self.show(object, request.subindex, out),
@@ -52,9 +52,9 @@ impl<K: Kind> Device<K> {
 
     // Answers a request: the checks 11 to 21, then the read or the write, and the response.
     pub fn respond(&mut self, request: &Request, out: &mut [u8]) -> Result<usize, Fault>
-        ensures reply { result ≡ (answered meaning self.old (asks request.now) out.old).reply }
-        ensures device { self.new ≡ (answered meaning self.old (asks request.now) out.old).device }
-        ensures buffer { out.new ≡ (answered meaning self.old (asks request.now) out.old).buffer }
+        ensures reply { result ≡ (answered K.meaning self.old (asks request.now) out.old).reply }
+        ensures device { self.new ≡ (answered K.meaning self.old (asks request.now) out.old).device }
+        ensures buffer { out.new ≡ (answered K.meaning self.old (asks request.now) out.old).buffer }
     {
         match self.access(request) {
             Ok(object) => self.perform(request, object, out),
@@ -64,9 +64,9 @@ impl<K: Kind> Device<K> {
 
     // Takes a frame: what is no request is denied with nothing written.
     fn take_frame(&mut self, frame: &[u8], out: &mut [u8]) -> Result<usize, Fault>
-        ensures reply { result ≡ (frame_answered meaning self.old (decoded frame.now) out.old).reply }
-        ensures device { self.new ≡ (frame_answered meaning self.old (decoded frame.now) out.old).device }
-        ensures buffer { out.new ≡ (frame_answered meaning self.old (decoded frame.now) out.old).buffer }
+        ensures reply { result ≡ (frame_answered K.meaning self.old (decoded frame.now) out.old).reply }
+        ensures device { self.new ≡ (frame_answered K.meaning self.old (decoded frame.now) out.old).device }
+        ensures buffer { out.new ≡ (frame_answered K.meaning self.old (decoded frame.now) out.old).buffer }
     {
         match decode(frame) {
             Ok(request) => self.respond(&request, out),
@@ -76,9 +76,9 @@ impl<K: Kind> Device<K> {
 
     // Takes a request, given room for any response.
     pub fn request(&mut self, frame: &[u8], out: &mut [u8]) -> Result<usize, Fault>
-        ensures reply { result ≡ (device_answered meaning self.old frame.now out.old).reply }
-        ensures device { self.new ≡ (device_answered meaning self.old frame.now out.old).device }
-        ensures buffer { out.new ≡ (device_answered meaning self.old frame.now out.old).buffer }
+        ensures reply { result ≡ (device_answered K.meaning self.old frame.now out.old).reply }
+        ensures device { self.new ≡ (device_answered K.meaning self.old frame.now out.old).device }
+        ensures buffer { out.new ≡ (device_answered K.meaning self.old frame.now out.old).buffer }
     {
         if out.len() < 16 {
             return Err(Fault::of(Denial::ResponseBuffer));

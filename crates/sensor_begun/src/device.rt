@@ -54,7 +54,7 @@ impl<K: Kind> Device<K> {
 
     // Feeds the teach: only a value is captured.
     fn feed(&mut self, reading: Reading<K>)
-        ensures { self.new ≡ fed_device meaning self.old reading }
+        ensures { self.new ≡ fed_device K.meaning self.old reading }
     {
         if let Reading::Value(v) = reading {
             let store = self.teach.feed(self.terms, v);
@@ -64,8 +64,8 @@ impl<K: Kind> Device<K> {
 
     // Judges every channel by its settings before the call, then feeds the teach. Answers the octet of signals.
     fn judge_and_feed(&mut self, reading: Reading<K>) -> u8
-        ensures signals { result ≡ signals_octet (judged_by meaning self.old reading).channels }
-        ensures device { self.new ≡ fed_device meaning (judged_by meaning self.old reading) reading }
+        ensures signals { result ≡ signals_octet (judged_by K.meaning self.old reading).channels }
+        ensures device { self.new ≡ fed_device K.meaning (judged_by K.meaning self.old reading) reading }
     {
         let signals = self.channels.pass(reading);
         self.feed(reading);
@@ -74,9 +74,9 @@ impl<K: Kind> Device<K> {
 
     // Judges every channel by the reading, feeds the teach, and writes process data.
     pub fn sample(&mut self, reading: Reading<K>, out: &mut [u8]) -> Result<usize, Fault>
-        ensures reply { result ≡ device_reply meaning out.old }
-        ensures device { self.new ≡ device_after meaning self.old reading out.old }
-        ensures buffer { out.new ≡ device_buffer meaning self.old reading out.old }
+        ensures reply { result ≡ device_reply K.meaning out.old }
+        ensures device { self.new ≡ device_after K.meaning self.old reading out.old }
+        ensures buffer { out.new ≡ device_buffer K.meaning self.old reading out.old }
     {
         if out.len() < block_length::<K>() {
             return Err(Fault::of(Denial::BufferTooShort));

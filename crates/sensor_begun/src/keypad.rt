@@ -117,7 +117,7 @@ impl<K: Kind> Device<K> {
         setpoint: u8,
         octets: &[u8],
     ) -> Result<Store<K>, Fault>
-        ensures { result ≡ keypad_checked meaning ticket.now channel setpoint octets.now self.now }
+        ensures { result ≡ keypad_checked K.meaning ticket.now channel setpoint octets.now self.now }
     {
         self.check_ticket(ticket)?;
         let setpoint = self.find_setpoint(channel, setpoint)?;
@@ -132,8 +132,8 @@ impl<K: Kind> Device<K> {
         setpoint: u8,
         octets: &[u8],
     ) -> Result<(), Fault>
-        ensures reply { result ≡ write_reply_of (keypad_written meaning ticket.now channel setpoint octets.now self.old) }
-        ensures device { self.new ≡ device_or self.old (keypad_written meaning ticket.now channel setpoint octets.now self.old) }
+        ensures reply { result ≡ write_reply_of (keypad_written K.meaning ticket.now channel setpoint octets.now self.old) }
+        ensures device { self.new ≡ device_or self.old (keypad_written K.meaning ticket.now channel setpoint octets.now self.old) }
     {
         let store = self.check_keypad_write(ticket, channel, setpoint, octets)?;
         self.put_setpoint(channel, store.setpoint, store.value);
@@ -173,8 +173,8 @@ impl<K: Kind> Sensor<K> {
         setpoint: u8,
         octets: &[u8],
     ) -> Result<(), Fault>
-        ensures reply { result ≡ keypad_write_reply meaning self.old ticket.now channel setpoint octets.now }
-        ensures sensor { self.new ≡ keypad_write_after meaning self.old ticket.now channel setpoint octets.now }
+        ensures reply { result ≡ keypad_write_reply K.meaning self.old ticket.now channel setpoint octets.now }
+        ensures sensor { self.new ≡ keypad_write_after K.meaning self.old ticket.now channel setpoint octets.now }
     {
         match &mut self.device {
             Some(device) => device.keypad_write(ticket, channel, setpoint, octets),

@@ -12,8 +12,8 @@ use octets::put;
 impl<K: Kind> Device<K> {
     // Writes the octets of an object, or of a part of it, to the front of `out`.
     pub fn read(&self, object: Object, subindex: u8, out: &mut [u8]) -> Option<usize>
-        ensures answer { result ≡ fitting (read_octets meaning self.now object subindex) out.old }
-        ensures buffer { out.new ≡ placed (read_octets meaning self.now object subindex) out.old }
+        ensures answer { result ≡ fitting (read_octets K.meaning self.now object subindex) out.old }
+        ensures buffer { out.new ≡ placed (read_octets K.meaning self.now object subindex) out.old }
     {
         match object {
             Object::SystemCommand => put(&[], out),

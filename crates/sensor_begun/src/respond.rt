@@ -40,8 +40,8 @@ impl<K: Kind> Device<K> {
     fn show(&self, object: Object, subindex: u8, out: &mut [u8]) -> Result<usize, Fault>
         requires room { 16 ≤ length out.old }
         requires readable { Readable self.now.channels object }
-        ensures reply { result ≡ Ok (length (read_reply (read_octets meaning self.now object subindex))) }
-        ensures buffer { out.new ≡ over (read_reply (read_octets meaning self.now object subindex)) out.old }
+        ensures reply { result ≡ Ok (length (read_reply (read_octets K.meaning self.now object subindex))) }
+        ensures buffer { out.new ≡ over (read_reply (read_octets K.meaning self.now object subindex)) out.old }
     {
         let mut octets = [0u8; 8];
         let n = self.read(object, subindex, &mut octets).unwrap_or(0).min(8);
@@ -52,9 +52,9 @@ impl<K: Kind> Device<K> {
     fn perform(&mut self, request: &Request, object: Object, out: &mut [u8]) -> Result<usize, Fault>
         requires room { 16 ≤ length out.old }
         requires readable { request.now.direction ≡ Read → Readable self.old.channels object }
-        ensures reply { result ≡ (object_answered meaning request.now.direction self.old (asks request.now) object).reply }
-        ensures device { self.new ≡ (object_answered meaning request.now.direction self.old (asks request.now) object).device }
-        ensures buffer { out.new ≡ over (object_answered meaning request.now.direction self.old (asks request.now) object).response out.old }
+        ensures reply { result ≡ (object_answered K.meaning request.now.direction self.old (asks request.now) object).reply }
+        ensures device { self.new ≡ (object_answered K.meaning request.now.direction self.old (asks request.now) object).device }
+        ensures buffer { out.new ≡ over (object_answered K.meaning request.now.direction self.old (asks request.now) object).response out.old }
     {
         match request.direction {
             Direction::Read => self.show(object, request.subindex, out),
@@ -68,9 +68,9 @@ impl<K: Kind> Device<K> {
     // Answers a request: the checks 11 to 21, then the read or the write, and the response.
     fn respond(&mut self, request: &Request, out: &mut [u8]) -> Result<usize, Fault>
         requires { 16 ≤ length out.old }
-        ensures reply { result ≡ (answered meaning self.old (asks request.now)).reply }
-        ensures device { self.new ≡ (answered meaning self.old (asks request.now)).device }
-        ensures buffer { out.new ≡ over (answered meaning self.old (asks request.now)).response out.old }
+        ensures reply { result ≡ (answered K.meaning self.old (asks request.now)).reply }
+        ensures device { self.new ≡ (answered K.meaning self.old (asks request.now)).device }
+        ensures buffer { out.new ≡ over (answered K.meaning self.old (asks request.now)).response out.old }
     {
         match access(&self.channels, self.keypad, request) {
             Ok(object) => self.perform(request, object, out),
@@ -81,9 +81,9 @@ impl<K: Kind> Device<K> {
     // Takes a frame: what is no request is denied with nothing written.
     fn take_frame(&mut self, frame: &[u8], out: &mut [u8]) -> Result<usize, Fault>
         requires { 16 ≤ length out.old }
-        ensures reply { result ≡ (frame_answered meaning self.old (decoded frame.now)).reply }
-        ensures device { self.new ≡ (frame_answered meaning self.old (decoded frame.now)).device }
-        ensures buffer { out.new ≡ over (frame_answered meaning self.old (decoded frame.now)).response out.old }
+        ensures reply { result ≡ (frame_answered K.meaning self.old (decoded frame.now)).reply }
+        ensures device { self.new ≡ (frame_answered K.meaning self.old (decoded frame.now)).device }
+        ensures buffer { out.new ≡ over (frame_answered K.meaning self.old (decoded frame.now)).response out.old }
     {
         match decode(frame) {
             Ok(request) => self.respond(&request, out),
@@ -93,9 +93,9 @@ impl<K: Kind> Device<K> {
 
     // Takes a request, once there is room for any response.
     pub fn request(&mut self, frame: &[u8], out: &mut [u8]) -> Result<usize, Fault>
-        ensures reply { result ≡ (device_answered meaning self.old frame.now out.old).reply }
-        ensures device { self.new ≡ (device_answered meaning self.old frame.now out.old).device }
-        ensures buffer { out.new ≡ over (device_answered meaning self.old frame.now out.old).response out.old }
+        ensures reply { result ≡ (device_answered K.meaning self.old frame.now out.old).reply }
+        ensures device { self.new ≡ (device_answered K.meaning self.old frame.now out.old).device }
+        ensures buffer { out.new ≡ over (device_answered K.meaning self.old frame.now out.old).response out.old }
     {
         if is_too_short(out) {
             return Err(Fault::of(Denial::ResponseBuffer));

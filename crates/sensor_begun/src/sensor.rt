@@ -30,7 +30,7 @@ fn is_from_to(n: u8, first: u8, last: u8) -> bool
 
 // Whether both ends lie within the kind's limits, the low one below the high one.
 fn range_lawful<K: Kind>(low: K, high: K) -> bool
-    ensures { result ≡ lawful_range meaning low high }
+    ensures { result ≡ lawful_range K.meaning low high }
 {
     low.is_under(high)
         && K::low_limit().at_most(low)
@@ -41,7 +41,7 @@ fn range_lawful<K: Kind>(low: K, high: K) -> bool
 
 // The reading that octets bring; none where they are no value.
 fn decode_reading<K: Kind>(reading: Reading<&[u8]>) -> Option<Reading<K>>
-    ensures { result ≡ decoded meaning reading.entry }
+    ensures { result ≡ decoded K.meaning reading.entry }
 {
     match reading {
         Reading::Value(octets) => {
@@ -97,7 +97,7 @@ impl<K: Kind> Sensor<K> {
 
     // The checks of a set-up, in their order, and the device that it gives.
     fn checked(&self, setup: &Setup) -> Result<Device<K>, Fault>
-        ensures { result ≡ set_up_checked meaning self.now setup.now }
+        ensures { result ≡ set_up_checked K.meaning self.now setup.now }
     {
         if self.keypad_open() {
             return Err(Fault::of(Denial::SetupUnderKeypad));
@@ -122,8 +122,8 @@ impl<K: Kind> Sensor<K> {
 
     // Sets the sensor up anew. A denied set-up changes nothing.
     pub fn set_up(&mut self, setup: &Setup) -> Result<(), Fault>
-        ensures reply { result ≡ set_up_reply meaning self.old setup.now }
-        ensures sensor { self.new ≡ set_up_after meaning self.old setup.now }
+        ensures reply { result ≡ set_up_reply K.meaning self.old setup.now }
+        ensures sensor { self.new ≡ set_up_after K.meaning self.old setup.now }
     {
         let device = self.checked(setup)?;
         self.device = Some(device);
@@ -132,9 +132,9 @@ impl<K: Kind> Sensor<K> {
 
     // Judges every channel by the reading, feeds the teach and writes process data. A denied sample changes and writes nothing.
     pub fn sample(&mut self, reading: Reading<&[u8]>, out: &mut [u8]) -> Result<usize, Fault>
-        ensures reply { result ≡ sample_reply meaning self.old reading.entry out.old }
-        ensures sensor { self.new ≡ sample_after meaning self.old reading.entry out.old }
-        ensures buffer { out.new ≡ sample_buffer meaning self.old reading.entry out.old }
+        ensures reply { result ≡ sample_reply K.meaning self.old reading.entry out.old }
+        ensures sensor { self.new ≡ sample_after K.meaning self.old reading.entry out.old }
+        ensures buffer { out.new ≡ sample_buffer K.meaning self.old reading.entry out.old }
     {
         let Some(device) = &mut self.device else {
             return Err(Fault::of(Denial::Blank));
@@ -148,9 +148,9 @@ impl<K: Kind> Sensor<K> {
     // Takes a request and writes the response. A denied request changes nothing; from the check of the index on, its
     // negative response is written.
     pub fn request(&mut self, frame: &[u8], out: &mut [u8]) -> Result<usize, Fault>
-        ensures reply { result ≡ request_reply meaning self.old frame.now out.old }
-        ensures sensor { self.new ≡ request_after meaning self.old frame.now out.old }
-        ensures buffer { out.new ≡ request_buffer meaning self.old frame.now out.old }
+        ensures reply { result ≡ request_reply K.meaning self.old frame.now out.old }
+        ensures sensor { self.new ≡ request_after K.meaning self.old frame.now out.old }
+        ensures buffer { out.new ≡ request_buffer K.meaning self.old frame.now out.old }
     {
         match &mut self.device {
             Some(device) => device.request(frame, out),

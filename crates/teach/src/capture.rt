@@ -13,9 +13,9 @@ pub struct Captured<K> {
 
 // The lowest, the highest and the number of the values, once `v` is captured too.
 pub fn with_value<K: Kind>(earlier: Option<Captured<K>>, v: K) -> (K, K, u16)
-    ensures lowest { result.0 ≡ (taken meaning earlier v).lowest }
-    ensures highest { result.1 ≡ (taken meaning earlier v).highest }
-    ensures count { result.2 ≡ (taken meaning earlier v).count }
+    ensures lowest { result.0 ≡ (taken K.meaning earlier v).lowest }
+    ensures highest { result.1 ≡ (taken K.meaning earlier v).highest }
+    ensures count { result.2 ≡ (taken K.meaning earlier v).count }
 {
     match earlier {
         None => (v, v, 1),

@@ -108,7 +108,7 @@ impl Flags {
 }
 
 fn judge_single<K: Kind>(terms: Terms, setpoint: Setpoint, lowest: K, highest: K) -> Verdict<K>
-    ensures { result ≡ evaluate_single meaning terms setpoint lowest highest }
+    ensures { result ≡ evaluate_single K.meaning terms setpoint lowest highest }
 {
     if lowest.raise(terms.spread).is_under(highest) {
         Verdict::Fails
@@ -118,7 +118,7 @@ fn judge_single<K: Kind>(terms: Terms, setpoint: Setpoint, lowest: K, highest: K
 }
 
 fn judge_two<K: Kind>(terms: Terms, setpoint: Setpoint, a: K, b: K) -> Verdict<K>
-    ensures { result ≡ evaluate_two meaning terms setpoint a b }
+    ensures { result ≡ evaluate_two K.meaning terms setpoint a b }
 {
     let (lower, higher) = if a.at_most(b) { (a, b) } else { (b, a) };
     if higher.is_under(lower.raise(terms.distance)) {
@@ -129,7 +129,7 @@ fn judge_two<K: Kind>(terms: Terms, setpoint: Setpoint, a: K, b: K) -> Verdict<K
 }
 
 fn judge_dynamic<K: Kind>(terms: Terms, setpoint: Setpoint, lowest: K, highest: K) -> Verdict<K>
-    ensures { result ≡ evaluate_dynamic meaning terms setpoint lowest highest }
+    ensures { result ≡ evaluate_dynamic K.meaning terms setpoint lowest highest }
 {
     if highest.is_under(lowest.raise(terms.distance)) {
         Verdict::Fails
@@ -147,8 +147,8 @@ impl<K: Kind> State<K> {
         command: Command,
         place: Place,
     ) -> Result<Effect<K>, Fault>
-        ensures reply { result ≡ command_reply meaning flags terms place self.old command }
-        ensures state { self.new ≡ command_state meaning flags terms self.old command }
+        ensures reply { result ≡ command_reply K.meaning flags terms place self.old command }
+        ensures state { self.new ≡ command_state K.meaning flags terms self.old command }
     {
         let named = command.setpoint;
         match (&mut *self, command.step) {
@@ -228,8 +228,8 @@ impl<K: Kind> State<K> {
 
     // Feeds a value: the Busy states count it, the dynamic ones widen by it.
     pub fn feed(&mut self, terms: Terms, v: K) -> Effect<K>
-        ensures effect { result ≡ (fed meaning terms self.old v).effect }
-        ensures state { self.new ≡ (fed meaning terms self.old v).state }
+        ensures effect { result ≡ (fed K.meaning terms self.old v).effect }
+        ensures state { self.new ≡ (fed K.meaning terms self.old v).state }
     {
         match (&mut *self, v) {
             (State::BusySingle(sp, captured), v) => {

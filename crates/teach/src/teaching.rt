@@ -163,10 +163,10 @@ impl<K: Kind> Teach<K> {
         code: u8,
         place: Place,
     ) -> Result<Option<Store<K>>, Fault>
-        ensures reply { result ≡ taken_reply meaning terms place self.old code }
-        ensures teach { self.new ≡ taken_teach meaning terms place self.old code }
-        ensures stores_within { StoresWithin {V = K} meaning terms }
-        ensures cancel_stores_nothing { CancelStoresNothing {V = K} meaning terms }
+        ensures reply { result ≡ taken_reply K.meaning terms place self.old code }
+        ensures teach { self.new ≡ taken_teach K.meaning terms place self.old code }
+        ensures stores_within { StoresWithin {V = K} K.meaning terms }
+        ensures cancel_stores_nothing { CancelStoresNothing {V = K} K.meaning terms }
     {
         let command = known_command(code, place)?;
         let effect = self.state.take(self.flags, terms, command, place)?;
@@ -175,11 +175,11 @@ impl<K: Kind> Teach<K> {
 
     // Feeds a value, and answers what is to be stored.
     pub fn feed(&mut self, terms: Terms, v: K) -> Option<Store<K>>
-        ensures store { result ≡ fed_store meaning terms self.old v }
-        ensures teach { self.new ≡ fed_teach meaning terms self.old v }
-        ensures takes_exactly_c { TakesExactlyC {V = K} meaning terms }
-        ensures captures_widen { CapturesWiden {V = K} meaning terms }
-        ensures stores_within { StoresWithin {V = K} meaning terms }
+        ensures store { result ≡ fed_store K.meaning terms self.old v }
+        ensures teach { self.new ≡ fed_teach K.meaning terms self.old v }
+        ensures takes_exactly_c { TakesExactlyC {V = K} K.meaning terms }
+        ensures captures_widen { CapturesWiden {V = K} K.meaning terms }
+        ensures stores_within { StoresWithin {V = K} K.meaning terms }
     {
         let effect = self.state.feed(terms, v);
         self.settle(effect)

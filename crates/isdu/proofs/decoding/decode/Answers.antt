@@ -13,5 +13,5 @@ returns c =
     let xs = c.args.frame.now in
     let e = decoded_at xs (omega (arith, ltb-false)) (cc) (eqb-true (exclusive_or xs) 0 (sym c.if-not-has_check.ensures)) in
     let v : told c.request_of.result ≡ decoded xs = cc in
-    let o = octets_all xs (λ i. omega (arith, c.well_formed.frame i)) in
+    let o = octets_all xs (λ i. omega (arith, c.type_inv.frame i)) in
     record { value = v; judged = judged xs _ o v; recomposes = recomposes xs _ o v }

@@ -13,8 +13,8 @@ bit_is i h = omega (arith, pow-lt h)
 bit_fits : (s i : ℕ) → s < 2 ^ i → i < 8 → s + 1 * 2 ^ i % 256 < 256
 bit_fits s i h k = let j : suc i ≤ 8 = omega arith in omega (arith, bit_is i k, twice i, pow_mono j)
 
-pub overflow-add-signals : goal.overflow-add-signals
-overflow-add-signals g c =
+pub overflow_add-signals : goal.overflow_add-signals
+overflow_add-signals g c =
     let i = c.loop-i.i in
     let h : i < length c.loop-i.self.rows = omega arith in
     record { fits = bit_fits c.loop-i.signals i (subst (λ n. n < 2 ^ i) (sym c.loop-i.invariant.1) (signals_below c.loop-i.self.rows i h)) (omega arith) }

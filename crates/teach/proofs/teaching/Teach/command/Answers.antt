@@ -31,14 +31,14 @@ module _ {V : Type 0} (m : Meaning V) (terms : Terms) (place : Place) (t : Teach
       ok_same : (a b : Effect V) → ◌≡◌ {A = Result (Effect V) Fault} (Ok a) (Ok b) → a ≡ b
       ok_same a b p = cc
 
-pub returns-in-err-effect : goal.returns-in-err-effect
-returns-in-err-effect g c =
+pub returns-in_err-effect : goal.returns-in_err-effect
+returns-in_err-effect g c =
     let m = g.K.Kind.meaning in
     let t = c.args.self.now in
-    let p = err_from_is_err_and c.from-residual-in-err-effect.result c.from-residual-in-err-effect.ensures.1 in
-    let e = c.in-err-effect.ensures in
-    let d = denied m c.args.terms c.args.place t (row_in m c.args.terms t c.in-ok-command.command) c.in-err-effect.field-0.0 e.reply in
-    let k = c.in-ok-command.ensures in
+    let p = err_from_is_err_and c.from_residual-in_err-effect.result c.from_residual-in_err-effect.ensures.1 in
+    let e = c.in_err-effect.ensures in
+    let d = denied m c.args.terms c.args.place t (row_in m c.args.terms t c.in_ok-command.command) c.in_err-effect.field-0.0 e.reply in
+    let k = c.in_ok-command.ensures in
     record {
       reply = p.1 ∙ ap Err p.2 ∙ d.0 ∙ ap (reply_to m c.args.terms c.args.place t) k;
       teach = ap (with_state t) e.state ∙ d.1 ∙ ap (teach_to m c.args.terms t) k;
@@ -50,22 +50,22 @@ pub returns : goal.returns
 returns g c =
     let m = g.K.Kind.meaning in
     let t = c.args.self.now in
-    let e = c.in-ok-effect.ensures in
-    let d = settles m c.args.terms c.args.place t (row_in m c.args.terms t c.in-ok-command.command) c.in-ok-effect.effect e.reply in
-    let k = c.in-ok-command.ensures in
+    let e = c.in_ok-effect.ensures in
+    let d = settles m c.args.terms c.args.place t (row_in m c.args.terms t c.in_ok-command.command) c.in_ok-effect.effect e.reply in
+    let k = c.in_ok-command.ensures in
     record {
       reply = ap Ok c.settle.ensures.store ∙ d.0 ∙ ap (reply_to m c.args.terms c.args.place t) k;
-      teach = c.settle.ensures.teach ∙ ap (λ s. settled (with_state t s) c.in-ok-effect.effect) e.state ∙ d.1 ∙ ap (teach_to m c.args.terms t) k;
+      teach = c.settle.ensures.teach ∙ ap (λ s. settled (with_state t s) c.in_ok-effect.effect) e.state ∙ d.1 ∙ ap (teach_to m c.args.terms t) k;
       stores_within = within m g.met.K.Kind.lawful c.args.terms;
       cancel_stores_nothing = nothing_stored m g.met.K.Kind.lawful c.args.terms;
     }
 
-pub returns-in-err-command : goal.returns-in-err-command
-returns-in-err-command g c =
+pub returns-in_err-command : goal.returns-in_err-command
+returns-in_err-command g c =
     let m = g.K.Kind.meaning in
     let t = c.args.self.now in
-    let p = err_from_is_err_and c.from-residual.result c.from-residual.ensures.1 in
-    let k = c.in-err-command.ensures in
+    let p = err_from_is_err_and c.from_residual.result c.from_residual.ensures.1 in
+    let k = c.in_err-command.ensures in
     record {
       reply = p.1 ∙ ap Err p.2 ∙ ap (reply_to m c.args.terms c.args.place t) k;
       teach = ap (teach_to m c.args.terms t) k;

@@ -7,7 +7,7 @@ returns g c =
     record {
       store = search rules;
       teach = search rules;
-      takes-exactly-c = takes_exactly_c g.K.Kind.meaning c.args.terms;
+      takes_exactly_c = takes_exactly_c g.K.Kind.meaning c.args.terms;
       captures_widen = captures_widen g.K.Kind.meaning g.met.K.Kind.lawful c.args.terms;
       stores_within = within g.K.Kind.meaning g.met.K.Kind.lawful c.args.terms;
     }
