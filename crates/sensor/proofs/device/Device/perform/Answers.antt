@@ -20,9 +20,9 @@ returns-in-Ok g c =
     ∙ ap (λ p. write_answered m d a out (written m d p o a.octets)) c.place.ensures
     ∙ ap (λ x. object_answered m x d a out o) (sym c.in-Write.is) in
     record {
-      reply = c.confirm-write.ensures.answer ∙ ap (λ (x : Answered _). x.reply) done;
+      reply = c.confirm_write.ensures.answer ∙ ap (λ (x : Answered _). x.reply) done;
       device = c.write.ensures.device ∙ ap (λ (x : Answered _). x.device) done;
-      buffer = c.confirm-write.ensures.buffer ∙ ap (λ r. left r write_reply out) c.confirm-write.ensures.answer ∙ ap (λ (x : Answered _). x.buffer) done;
+      buffer = c.confirm_write.ensures.buffer ∙ ap (λ r. left r write_reply out) c.confirm_write.ensures.answer ∙ ap (λ (x : Answered _). x.buffer) done;
     }
 
 pub returns-in-Err : goal.returns-in-Err

@@ -20,7 +20,7 @@ returns g c =
     let short : Answered _ = record { reply = Err (fault ResponseBuffer); device = d; buffer = out } in
     let e = ap (λ (b : Bool). cond b short (frame_answered g.K.Kind.meaning d (decoded c.args.frame.now) out)) (sym (le-ltb (length out) 16 c.if-out-lt16.false)) in
     record {
-      reply = c.take-frame.ensures.reply ∙ ap (λ (x : Answered _). x.reply) e;
-      device = c.take-frame.ensures.device ∙ ap (λ (x : Answered _). x.device) e;
-      buffer = c.take-frame.ensures.buffer ∙ ap (λ (x : Answered _). x.buffer) e;
+      reply = c.take_frame.ensures.reply ∙ ap (λ (x : Answered _). x.reply) e;
+      device = c.take_frame.ensures.device ∙ ap (λ (x : Answered _). x.device) e;
+      buffer = c.take_frame.ensures.buffer ∙ ap (λ (x : Answered _). x.buffer) e;
     }

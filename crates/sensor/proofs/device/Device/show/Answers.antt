@@ -14,10 +14,10 @@ returns g c =
     let out = c.args.out.now in
     let octets = read_octets m c.args.self.now c.args.object c.args.subindex in
     let count : c.min-n.result ≡ min (unwrap_or (fitting octets zeros) 0) 8 =
-    c.min-n.ensures ∙ ap (λ n. min n 8) (c.unwrap-or.ensures ∙ ap (λ o. unwrap_or o 0) c.read.ensures.answer) in
+    c.min-n.ensures ∙ ap (λ n. min n 8) (c.unwrap_or.ensures ∙ ap (λ o. unwrap_or o 0) c.read.ensures.answer) in
     let shown : take (c.min-n.result - 0) c.read.new.out ≡ octets =
     (λ i. take (count i - 0) (c.read.ensures.buffer i)) ∙ gathered octets zeros (read_short m g.met.K.Kind.lawful c.args.self.now c.args.object c.args.subindex) refl in
     record {
-      reply = c.confirm-read.ensures.answer ∙ ap (λ xs. read_replied xs (length out)) shown;
-      buffer = c.confirm-read.ensures.buffer ∙ ap (λ xs. left c.confirm-read.result (read_reply xs) out) shown;
+      reply = c.confirm_read.ensures.answer ∙ ap (λ xs. read_replied xs (length out)) shown;
+      buffer = c.confirm_read.ensures.buffer ∙ ap (λ xs. left c.confirm_read.result (read_reply xs) out) shown;
     }
