@@ -1,8 +1,7 @@
 -- The octets of a text, read one after another.
-use Rattle.std.proofs.Common.{◌≡◌, ℕ, ◌-◌, ◌≤◌, false, List, [], ◌∷◌, ◌++◌, length, get_or, take, drop, Some, None, Decides, Option, sym, refl, ap, ◌∙◌, ⊎_elim, arith}
+use Rattle.std.proofs.Common.{◌≡◌, ℕ, ◌-◌, ◌≤◌, false, List, [], ◌∷◌, ◌++◌, length, get_or, take, drop, Some, None, Option, sym, refl, ap, ◌∙◌, arith}
 use Rattle.std.proofs.lemmas.List.{append_assoc, append-nil, take_rest}
-use Rattle.std.proofs.lemmas.Bool.{cond-true, cond-false, eq-eqb, ne_eqb, cases_Bool, false≢true}
-use Rattle.std.proofs.lemmas.Slice.Eq.{bytes_eq-Decides}
+use Rattle.std.proofs.lemmas.Bool.{cond-true, cond-false, eq-eqb, ne_eqb}
 use Rattle.std.specs.Str.{bytes_eq}
 use Rattle.vectors.specs.Hexadecimal.{octet_value, before, octets_value, octets_told}
 
@@ -40,12 +39,6 @@ pub joined_step : (xs zs : List ℕ) (x : ℕ) (t r p o : Option (List ℕ)) →
 joined_step xs zs x t r p o a b f d =
     a ∙ ap (joined xs) b ∙ joined_more xs x p ∙ ap (joined (xs ++ x ∷ [])) f ∙ ap (λ ys. joined ys o) (sym d)
 
--- a text that is no dash
-told_value : (text : List ℕ) → Decides false (text ≡ 45 ∷ []) → octets_told text ≡ octets_value text
-told_value text d =
-    cond-false _ _ _
-    (⊎_elim (λ e. absurd (false≢true (d.1 ((bytes_eq-Decides text (45 ∷ [])).0 e)))) (λ e. e) (cases_Bool (bytes_eq text (45 ∷ []))))
-
--- all octets of such a text were read
-pub told_all : (text bytes zs : List ℕ) → Decides false (text ≡ 45 ∷ []) → bytes ≡ text → octets_value bytes ≡ joined zs (Some []) → octets_told text ≡ Some zs
-told_all text bytes zs d e h = told_value text d ∙ ap octets_value (sym e) ∙ h ∙ ap Some (append-nil zs)
+-- all octets of a text that is no dash were read
+pub told_all : (text bytes zs : List ℕ) → false ≡ bytes_eq text (45 ∷ []) → bytes ≡ text → octets_value bytes ≡ joined zs (Some []) → octets_told text ≡ Some zs
+told_all text bytes zs d e h = cond-false _ _ _ (sym d) ∙ ap octets_value (sym e) ∙ h ∙ ap Some (append-nil zs)
