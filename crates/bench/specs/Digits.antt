@@ -1,5 +1,5 @@
 -- Octets written as two hexadecimal digits.
-use Rattle.std.specs.Prelude.{ℕ, ◌+◌, ◌-◌, ◌*◌, Bool, cond, ◌&&◌, Some, None, Option, nat_le}
+use Rattle.std.specs.Prelude.{ℕ, ◌+◌, ◌-◌, ◌*◌, cond, ◌&&◌, Some, None, Option, nat_le}
 
 -- 0 to 9, A to F or a to f, by the codes of the characters
 abbrev pub hex_value : ℕ → Option ℕ

@@ -1,5 +1,5 @@
 -- What the values of a kind mean, and the laws that every kind shows.
-use Rattle.std.specs.Prelude.{◌≡◌, ℕ, Bool, cond, ◌⊎◌, List, length, ℤ, ◌≤ℤ◌, ◌<ℤ◌, Some, None, Option, int_le, int_lt}
+use Rattle.std.specs.Prelude.{◌≡◌, ℕ, Bool, cond, ◌⊎◌, List, length, ℤ, ◌≤ℤ◌, ◌<ℤ◌, Some, Option, int_le, int_lt}
 
 pub record Meaning (V : Type 0) : Type 0 where
   -- how many octets a value has

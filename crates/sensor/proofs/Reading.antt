@@ -1,5 +1,5 @@
 -- What a read shows has at most eight octets, so it fits the buffer that it is gathered in.
-use Rattle.std.proofs.Common.{◌≡◌, ℕ, ◌-◌, ◌≤◌, min, Bool, true, false, cond, eqb, List, [], ◌∷◌, ◌++◌, length, take, drop, Some, None, Option, unwrap_or, sym, ap, ◌∙◌, inl, inr, arith, length-append}
+use Rattle.std.proofs.Common.{◌≡◌, ℕ, ◌-◌, ◌≤◌, min, Bool, true, false, cond, eqb, List, ◌++◌, length, take, drop, Some, None, Option, unwrap_or, sym, ap, ◌∙◌, inl, inr, arith, length-append}
 use lib.Seq.{take-append_seam}
 use Rattle.octets.specs.Buffers.{fitting, placed}
 use Rattle.octets.proofs.Rooms.{fitting_room, placed_room}

@@ -1,13 +1,11 @@
 -- The promises of the teach.
-use Rattle.std.proofs.Common.{◌≡◌, ℕ, ◌+◌, ◌<◌, ◌≤◌, Bool, true, false, cond, List, [], ◌∷◌, length, Some, None, Ok, Err, Option, Result, sym, refl, ap, ◌∙◌, subst, arith, le-leb}
+use Rattle.std.proofs.Common.{◌≡◌, ℕ, ◌+◌, ◌<◌, Bool, true, false, cond, List, [], ◌∷◌, length, Some, None, Ok, Err, Option, Result, sym, refl, ap, ◌∙◌, subst, arith, le-leb}
 use borrow.Author.Tests.{lt-leb}
 use Rattle.kinds.specs.Meaning.{Meaning, Lawful}
 use Rattle.kinds.proofs.Bounds.{lesser_bounds, greater_bounds}
 use Rattle.teach.specs.declared.capture.Captured.{Captured}
 use Rattle.teach.specs.declared.command.Command.{Command}
 use Rattle.teach.specs.declared.command.Setpoint.{Setpoint}
-use Rattle.teach.specs.declared.command.Step.TheVariants.{Cancel}
-use Rattle.teach.specs.declared.machine.Flags.{Flags}
 use Rattle.teach.specs.declared.machine.State.{State}
 use Rattle.teach.specs.declared.machine.State.TheVariants.{Idle, BusySingle, BusyTwo, WaitTwo, DynStart, WaitDyn}
 use Rattle.teach.specs.declared.machine.Change.TheVariants.{Clear}
@@ -15,7 +13,7 @@ use Rattle.teach.specs.declared.machine.Verdict.TheVariants.{Open, Fails, Stores
 use Rattle.teach.specs.declared.terms.Terms.{Terms}
 use Rattle.teach.specs.Captures.{taken}
 use Rattle.teach.specs.Evaluation.{teachpoint_of}
-use Rattle.teach.specs.Machine.{Moved, moved, fed, full, row, with_point}
+use Rattle.teach.specs.Machine.{Moved, moved, fed, full, with_point}
 use Rattle.faults.specs.declared.Fault.{Fault}
 use Rattle.faults.specs.declared.Place.{Place}
 use Rattle.teach.specs.declared.teaching.Teach.{Teach}

@@ -1,9 +1,9 @@
 -- When a teach fails, and what it stores where it does not.
-use Rattle.std.specs.Prelude.{ℕ, cond}
+use Rattle.std.specs.Prelude.{cond}
 use Rattle.kinds.specs.Meaning.{Meaning, under, lesser, greater}
 use Rattle.teach.specs.declared.command.Setpoint.{Setpoint}
 use Rattle.teach.specs.declared.machine.Verdict.{Verdict}
-use Rattle.teach.specs.declared.machine.Verdict.TheVariants.{Open, Fails, Stores}
+use Rattle.teach.specs.declared.machine.Verdict.TheVariants.{Fails, Stores}
 use Rattle.teach.specs.declared.terms.Terms.{Terms}
 
 module _ {V : Type 0} (m : Meaning V) (t : Terms) where

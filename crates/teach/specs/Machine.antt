@@ -1,5 +1,5 @@
 -- The teach machine: the rows of its table, and what a value does in each state.
-use Rattle.std.specs.Prelude.{ℕ, Bool, true, false, cond, Some, None, Ok, Err, Option, Result, nat_le}
+use Rattle.std.specs.Prelude.{Bool, true, false, cond, Some, None, Ok, Err, Option, Result, nat_le}
 use Rattle.faults.specs.declared.Fault.{Fault}
 use Rattle.faults.specs.declared.Denial.TheVariants.{NotInState}
 use Rattle.faults.specs.declared.Place.{Place}
@@ -20,7 +20,7 @@ use Rattle.teach.specs.declared.machine.Flags.{Flags}
 use Rattle.teach.specs.declared.machine.Change.{Change}
 use Rattle.teach.specs.declared.machine.Change.TheVariants.{Keep, Clear, Set}
 use Rattle.teach.specs.declared.machine.Verdict.{Verdict}
-use Rattle.teach.specs.declared.machine.Verdict.TheVariants.{Open, Fails, Stores}
+use Rattle.teach.specs.declared.machine.Verdict.TheVariants.{Open}
 use Rattle.teach.specs.declared.machine.Effect.{Effect}
 use Rattle.teach.specs.declared.terms.Terms.{Terms}
 use Rattle.teach.specs.Captures.{taken}

@@ -1,5 +1,5 @@
 -- What holds of every teach, whatever the kind and the terms.
-use Rattle.std.specs.Prelude.{◌≡◌, ℕ, ◌<◌, Bool, true, false, List, [], ◌∷◌, length, ◌≤ℤ◌, Some, None, Option}
+use Rattle.std.specs.Prelude.{◌≡◌, ◌<◌, Bool, true, false, List, [], ◌∷◌, length, ◌≤ℤ◌, Some, None}
 use Rattle.kinds.specs.Meaning.{Meaning, lesser, greater}
 use Rattle.teach.specs.declared.capture.Captured.{Captured}
 use Rattle.teach.specs.declared.command.Command.{Command}
@@ -10,7 +10,7 @@ use Rattle.teach.specs.declared.machine.Flags.{Flags}
 use Rattle.teach.specs.declared.machine.Points.{Points}
 use Rattle.teach.specs.declared.machine.State.{State}
 use Rattle.teach.specs.declared.machine.State.TheVariants.{Idle, BusySingle, BusyTwo, WaitTwo, DynStart, WaitDyn}
-use Rattle.teach.specs.declared.machine.Verdict.TheVariants.{Open, Fails, Stores}
+use Rattle.teach.specs.declared.machine.Verdict.TheVariants.{Open, Stores}
 use Rattle.teach.specs.declared.terms.Terms.{Terms}
 use Rattle.teach.specs.Captures.{taken}
 use Rattle.teach.specs.Evaluation.{evaluate_single, evaluate_two, evaluate_dynamic}

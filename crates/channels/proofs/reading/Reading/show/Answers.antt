@@ -1,4 +1,4 @@
-use Rattle.std.proofs.Common.{◌≡◌, ℕ, ◌+◌, ◌<◌, ◌≤◌, cond, List, [], ◌∷◌, ◌++◌, length, get_or, set, Some, sym, refl, ap, ◌∙◌, arith, length-append, rules}
+use Rattle.std.proofs.Common.{◌≡◌, ◌+◌, ◌<◌, ◌≤◌, length, set, Some, sym, ap, ◌∙◌, arith}
 use Rattle.octets.proofs.Rooms.{fitting_room, fitting_none, placed_room, placed_none}
 use Rattle.channels.specs.Readings.{shown, block}
 use Rattle.channels.proofs.Blocks.{block_long, shown_wide, two_behind}

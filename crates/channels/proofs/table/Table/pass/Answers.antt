@@ -1,4 +1,4 @@
-use Rattle.std.proofs.Common.{◌≡◌, ℕ, suc, ◌+◌, ◌*◌, ◌%◌, ◌^◌, ◌<◌, ◌≤◌, min, Bool, true, false, cond, List, ◌++◌, map, length, get_or, take, drop, set, sym, refl, ap, ◌∙◌, subst, add-zero, arith, length-set, get_or-set_same, pow_mono, rules}
+use Rattle.std.proofs.Common.{◌≡◌, ℕ, suc, ◌+◌, ◌*◌, ◌%◌, ◌^◌, ◌<◌, ◌≤◌, min, cond, ◌++◌, map, length, take, drop, set, sym, ap, ◌∙◌, subst, add-zero, arith, length-set, get_or-set_same, pow_mono}
 use lib.Pow.{pow-lt}
 use Rattle.std.proofs.lemmas.List.Edits.{map_over_more}
 use Rattle.channels.specs.Judging.{judged, signal}

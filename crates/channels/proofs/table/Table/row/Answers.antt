@@ -1,4 +1,4 @@
-use Rattle.std.proofs.Common.{◌≡◌, ℕ, zero, suc, ◌-◌, ◌<◌, ◌≤◌, min, Bool, true, cond, ◌&&◌, leb, List, [], ◌∷◌, length, get_or, Some, None, sym, refl, ap, ◌∙◌, subst, arith, tests}
+use Rattle.std.proofs.Common.{◌≡◌, ℕ, zero, suc, ◌-◌, ◌<◌, min, Bool, true, cond, ◌&&◌, leb, List, [], ◌∷◌, length, get_or, Some, None, sym, refl, ap, ◌∙◌, arith, tests}
 use Rattle.channels.specs.Table.{nth}
 use Rattle.channels.proofs.table.Table.row.Goals as goal
 

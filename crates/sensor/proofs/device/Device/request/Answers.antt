@@ -1,4 +1,4 @@
-use Rattle.std.proofs.Common.{◌≡◌, Bool, cond, length, Err, sym, ap, ◌∙◌, le-ltb, lt-ltb}
+use Rattle.std.proofs.Common.{Bool, cond, length, Err, sym, ap, ◌∙◌, le-ltb, lt-ltb}
 use Rattle.faults.specs.declared.Denial.TheVariants.{ResponseBuffer}
 use Rattle.faults.specs.Denials.{fault}
 use Rattle.isdu.specs.Decoding.{decoded}

@@ -1,4 +1,4 @@
-use Rattle.std.proofs.Common.{◌≡◌, ℕ, ◌<◌, ◌≤◌, max, Bool, cond, Ok, Err, sym, ap, ◌∙◌, arith, le-ltb, lt-ltb}
+use Rattle.std.proofs.Common.{◌<◌, ◌≤◌, max, Bool, cond, Ok, Err, sym, ap, ◌∙◌, arith, le-ltb, lt-ltb}
 use Rattle.faults.specs.declared.Denial.TheVariants.{NoValue}
 use Rattle.faults.specs.Denials.{fault_at}
 use Rattle.channels.specs.Table.{rows_present}

@@ -1,7 +1,7 @@
-use Rattle.std.proofs.Common.{◌≡◌, Some, Ok, Err, sym, ap, ◌∙◌}
+use Rattle.std.proofs.Common.{Ok, Err, ap, ◌∙◌}
 use Rattle.std.proofs.lemmas.Result.{err_from_is_err_and}
 use Rattle.channels.specs.declared.row.Row.{Row}
-use Rattle.channels.specs.Table.{row_at, with_row}
+use Rattle.channels.specs.Table.{with_row}
 use Rattle.sensor.specs.Access.{device_or, row_written, write_reply_of}
 use Rattle.sensor.specs.Devices.{with_channels}
 use Rattle.sensor.specs.Writes.{configuration_written, then}

@@ -1,6 +1,5 @@
-use Rattle.std.proofs.Common.{◌≡◌, Some, sym, ap, ◌∙◌}
-use Rattle.channels.specs.declared.row.Row.{Row}
-use Rattle.channels.specs.Table.{row_at, with_row}
+use Rattle.std.proofs.Common.{◌≡◌, sym, ap, ◌∙◌}
+use Rattle.channels.specs.Table.{with_row}
 use Rattle.sensor.specs.Devices.{put_setpoint, stored, with_channels, with_setpoint}
 use Rattle.sensor.proofs.device.Device.store.Goals as goal
 use Rattle.sensor.proofs.device.Device.store.Goals.{in-Sp1, in-Sp2}

@@ -1,4 +1,4 @@
-use Rattle.std.proofs.Common.{◌≡◌, ap, ◌∙◌}
+use Rattle.std.proofs.Common.{ap, ◌∙◌}
 use Rattle.sensor.specs.Requests.{Answered, frame_answered}
 use Rattle.sensor.proofs.device.Device.take_frame.Goals as goal
 

@@ -4,7 +4,6 @@ use Rattle.faults.specs.declared.Fault.{Fault}
 use Rattle.faults.specs.declared.Place.{Place}
 use Rattle.kinds.specs.Meaning.{Meaning}
 use Rattle.teach.specs.declared.machine.Effect.{Effect}
-use Rattle.teach.specs.declared.machine.Flags.{Flags}
 use Rattle.teach.specs.declared.terms.Terms.{Terms}
 use Rattle.teach.specs.declared.teaching.Teach.{Teach}
 use Rattle.teach.specs.Machine.{Moved, reply_by, state_by}
