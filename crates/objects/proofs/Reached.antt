@@ -43,7 +43,7 @@ module _ {V : Type 0} (t : Table V) where
   unread (Ok o) = λ e. absurd (let z : ◌≡◌ {A = ℕ} 0 1 = cc in omega arith)
   unread (Err f) = tt
 
-  allowed : (b : Bool) (f f' : Fault) (o : Object) → HasRow t o → IfOk {X = Object} {Y = Fault} (cond b (Err f) (cond (not (allows o Read)) (Err f') (Ok o))) (λ p. Read ≡ Read → Readable t p)
+  allowed : (b : Bool) (f f' : Fault) (o : Object) → HasRow t o → IfOk {T = Object} {E = Fault} (cond b (Err f) (cond (not (allows o Read)) (Err f') (Ok o))) (λ p. Read ≡ Read → Readable t p)
   allowed true f f' o h = tt
   allowed false f f' SystemCommand h = tt
   allowed false f f' TeachSelect h = λ e. (refl, tt)

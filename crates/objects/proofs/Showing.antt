@@ -1,5 +1,5 @@
 -- What a read shows of a channel has from one to eight octets.
-use Rattle.std.proofs.Common.{◌≡◌, ℕ, ◌≤◌, Bool, true, false, cond, eqb, List, ◌++◌, length, inl, inr, arith, length-append}
+use Rattle.std.proofs.Common.{ℕ, ◌≤◌, Bool, true, false, cond, eqb, List, ◌++◌, length, inl, inr, arith, length-append}
 use Rattle.kinds.specs.Meaning.{Meaning, Lawful}
 use Rattle.channels.specs.declared.row.Row.{Row}
 use Rattle.objects.specs.Reads.{configuration_read, setpoints_read}

@@ -13,6 +13,6 @@ returns-in-Some g c =
     let a = asks c.args.request.now in
     let found = c.in-Some.ensures in
     record {
-      object = c.check-object.ensures ∙ ap (index_checked m c.args.keypad a) found.object;
-      readable = subst (λ r. IfOk r (λ o. a.direction ≡ Read → Readable t o)) (sym c.check-object.ensures) (reached t m c.args.keypad a c.in-Some.object found.eight found.object);
+      object = c.check_object.ensures ∙ ap (index_checked m c.args.keypad a) found.object;
+      readable = subst (λ r. IfOk r (λ o. a.direction ≡ Read → Readable t o)) (sym c.check_object.ensures) (reached t m c.args.keypad a c.in-Some.object found.eight found.object);
     }

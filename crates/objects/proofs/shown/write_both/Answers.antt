@@ -1,6 +1,6 @@
-use Rattle.std.proofs.Common.{◌≡◌, ℕ, ◌+◌, ◌-◌, ◌*◌, ◌<◌, ◌≤◌, List, ◌++◌, length, take, drop, Some, sym, ap, ◌∙◌, subst, arith, length-append}
+use Rattle.std.proofs.Common.{◌≡◌, ℕ, ◌+◌, ◌-◌, ◌*◌, ◌<◌, ◌≤◌, List, ◌++◌, length, take, drop, Some, sym, ap, ◌∙◌, arith, length-append}
 use borrow.Rule.Slice.PartMut.{put_mid}
-use Rattle.octets.specs.Buffers.{fitting, placed}
+use Rattle.octets.specs.Buffers.{placed}
 use Rattle.octets.proofs.Rooms.{fitting_none, fitting_room, placed_none}
 use Rattle.octets.proofs.Behind.{behind}
 use Rattle.objects.proofs.shown.write_both.Goals as goal
