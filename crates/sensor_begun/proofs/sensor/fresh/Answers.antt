@@ -10,7 +10,7 @@ returns g c =
     λ i. record {
       serial = s.serial;
       terms = terms_of s;
-      scale = (ap (λ xs. get_or xs 0 0) c.to-be-bytes.ensures ∙ ap (of_z w8) (to_z-of_z w8 s.scale scale-fits)) i;
+      scale = (ap (λ xs. get_or xs 0 0) c.to_be_bytes.ensures ∙ ap (of_z w8) (to_z-of_z w8 s.scale scale-fits)) i;
       keypad = false;
       selected = 1;
       low = c.args.low;

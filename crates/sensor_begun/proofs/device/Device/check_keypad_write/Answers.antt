@@ -10,17 +10,17 @@ denied r f x e = ap (λ a. then a f) e
 passed : {A B : Type 0} (r : Result A Fault) (f : A → Result B Fault) (x : A) → Ok x ≡ r → f x ≡ then r f
 passed r f x e = ap (λ a. then a f) e
 
-pub returns-in-err-check-ticket : goal.returns-in-err-check-ticket
-returns-in-err-check-ticket g c =
-    let p = err_from_is_err_and c.from-residual.result c.from-residual.ensures.1 in
-    p.1 ∙ ap Err p.2 ∙ denied _ _ _ c.in-err-check-ticket.ensures
+pub returns-in_err-check_ticket : goal.returns-in_err-check_ticket
+returns-in_err-check_ticket g c =
+    let p = err_from_is_err_and c.from_residual.result c.from_residual.ensures.1 in
+    p.1 ∙ ap Err p.2 ∙ denied _ _ _ c.in_err-check_ticket.ensures
 
-pub returns-in-err-setpoint : goal.returns-in-err-setpoint
-returns-in-err-setpoint g c =
-    let p = err_from_is_err_and c.from-residual-in-err-setpoint.result c.from-residual-in-err-setpoint.ensures.1 in
-    p.1 ∙ ap Err p.2 ∙ denied _ _ _ c.in-err-setpoint.ensures ∙ passed _ _ _ c.in-ok-check-ticket.ensures
+pub returns-in_err-setpoint : goal.returns-in_err-setpoint
+returns-in_err-setpoint g c =
+    let p = err_from_is_err_and c.from_residual-in_err-setpoint.result c.from_residual-in_err-setpoint.ensures.1 in
+    p.1 ∙ ap Err p.2 ∙ denied _ _ _ c.in_err-setpoint.ensures ∙ passed _ _ _ c.in_ok-check_ticket.ensures
 
-pub returns-in-err-value : goal.returns-in-err-value
-returns-in-err-value g c =
-    let p = err_from_is_err_and c.from-residual-in-err-value.result c.from-residual-in-err-value.ensures.1 in
-    p.1 ∙ ap Err p.2 ∙ denied _ _ _ c.in-err-value.ensures ∙ passed _ _ _ c.in-ok-setpoint.ensures ∙ passed _ _ _ c.in-ok-check-ticket.ensures
+pub returns-in_err-value : goal.returns-in_err-value
+returns-in_err-value g c =
+    let p = err_from_is_err_and c.from_residual-in_err-value.result c.from_residual-in_err-value.ensures.1 in
+    p.1 ∙ ap Err p.2 ∙ denied _ _ _ c.in_err-value.ensures ∙ passed _ _ _ c.in_ok-setpoint.ensures ∙ passed _ _ _ c.in_ok-check_ticket.ensures

@@ -13,5 +13,5 @@ unfed m d Below h = refl
 unfed m d Above h = refl
 unfed m d NoData h = refl
 
-pub returns-in-default : goal.returns-in-default
-returns-in-default g c = unfed g.K.Kind.meaning c.args.self.now c.args.reading c.in-default.not-Value
+pub returns-in_default : goal.returns-in_default
+returns-in_default g c = unfed g.K.Kind.meaning c.args.self.now c.args.reading c.in_default.not-Value

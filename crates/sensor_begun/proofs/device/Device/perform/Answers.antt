@@ -24,11 +24,11 @@ returns-in-Ok g c =
     write_done d w c.in-Ok.ensures.reply
     ∙ ap (λ p. write_answered d (written m d p o a.octets)) c.place.ensures
     ∙ ap (λ x. object_answered m x d a o) (sym c.in-Write.is) in
-    let whole = c.confirm-write.ensures.answer ∙ delivered_whole (length write_reply) (length out) (omega arith) c.requires.room in
+    let whole = c.confirm_write.ensures.answer ∙ delivered_whole (length write_reply) (length out) (omega arith) c.requires.room in
     record {
       reply = whole ∙ ap (λ (x : Answered _). x.reply) done;
       device = c.write.ensures.device ∙ ap (λ (x : Answered _). x.device) done;
-      buffer = c.confirm-write.ensures.buffer ∙ ap (λ r. left r write_reply out) whole ∙ ap (λ (x : Answered _). over x.response out) done;
+      buffer = c.confirm_write.ensures.buffer ∙ ap (λ r. left r write_reply out) whole ∙ ap (λ (x : Answered _). over x.response out) done;
     }
 
 pub returns-in-Err : goal.returns-in-Err

@@ -15,14 +15,14 @@ use Rattle.sensor_begun.proofs.device.Device.sample.Goals as goal
 abbrev short : Result ℕ Fault
 short = Err (fault BufferTooShort)
 
-pub returns-then-out-block-length : goal.returns-then-out-block-length
-returns-then-out-block-length g c =
+pub returns-then-out-block_length : goal.returns-then-out-block_length
+returns-then-out-block_length g c =
     let m = g.K.Kind.meaning in
     let d = c.args.self.now in
     let r = c.args.reading in
     let out = c.args.out.now in
     let n = block_length m in
-    let h : length out < n = omega (arith, c.block-length.ensures) in
+    let h : length out < n = omega (arith, c.block_length.ensures) in
     let t = lt-ltb (length out) n h in
     record {
       reply = ap Err c.of.ensures ∙ sym (ap (λ (b : Bool). cond b short (Ok n)) t);
@@ -39,22 +39,22 @@ returns g c =
     let out = c.args.out.now in
     let n = block_length m in
     let block-is = process_data m d r in
-    let h : n ≤ length out = omega (arith, c.block-length.ensures) in
+    let h : n ≤ length out = omega (arith, c.block_length.ensures) in
     let t = le-ltb (length out) n h in
     let counted_is : c.within-reading.result ≡ counted_in m d r = c.within-reading.ensures in
-    let signals-is : c.judge-and-feed-signals.result ≡ signals_octet (judged_device m d r).channels =
-    c.judge-and-feed-signals.ensures.signals ∙ ap (λ x. signals_octet (judged_by m d x).channels) counted_is in
-    let block-shown : block m c.within-reading.result d.scale c.judge-and-feed-signals.result ≡ block-is =
+    let signals-is : c.judge_and_feed-signals.result ≡ signals_octet (judged_device m d r).channels =
+    c.judge_and_feed-signals.ensures.signals ∙ ap (λ x. signals_octet (judged_by m d x).channels) counted_is in
+    let block-shown : block m c.within-reading.result d.scale c.judge_and_feed-signals.result ≡ block-is =
     λ i. block m (counted_is i) d.scale (signals-is i) in
     let long : length block-is ≡ n = block_long m l (counted_in m d r) d.scale (signals_octet (judged_device m d r).channels) in
     let room : length block-is ≤ length out = omega (arith, long) in
     record {
       reply =
-          c.ok-or.ensures.value
+          c.ok_or.ensures.value
           ∙ ap (λ o. ok_or o c.of-2.result) (c.show.ensures.answer ∙ ap (λ bs. fitting bs out) block-shown ∙ sym (fitting_room block-is out room))
           ∙ ap Ok long
           ∙ sym (ap (λ (b : Bool). cond b short (Ok n)) t);
-      device = c.judge-and-feed-signals.ensures.device ∙ ap (λ x. fed_device m (judged_by m d x) x) counted_is ∙ sym (ap (λ (b : Bool). cond b d (sampled m d r)) t);
+      device = c.judge_and_feed-signals.ensures.device ∙ ap (λ x. fed_device m (judged_by m d x) x) counted_is ∙ sym (ap (λ (b : Bool). cond b d (sampled m d r)) t);
       buffer =
           c.show.ensures.buffer
           ∙ ap (λ bs. placed bs out) block-shown

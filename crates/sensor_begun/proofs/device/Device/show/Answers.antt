@@ -16,11 +16,11 @@ returns g c =
     let octets = read_octets m c.args.self.now c.args.object c.args.subindex in
     let some = read_shown m g.met.K.Kind.lawful c.args.self.now c.args.object c.args.subindex c.requires.readable in
     let count : c.min-n.result ≡ min (unwrap_or (fitting octets zeros) 0) 8 =
-    c.min-n.ensures ∙ ap (λ n. min n 8) (c.unwrap-or.ensures ∙ ap (λ o. unwrap_or o 0) c.read.ensures.answer) in
+    c.min-n.ensures ∙ ap (λ n. min n 8) (c.unwrap_or.ensures ∙ ap (λ o. unwrap_or o 0) c.read.ensures.answer) in
     let shown : take (c.min-n.result - 0) c.read.new.out ≡ octets =
     (λ i. take (count i - 0) (c.read.ensures.buffer i)) ∙ gathered octets zeros some.1 refl in
-    let whole = c.confirm-read.ensures.answer ∙ ap (λ xs. read_replied xs (length out)) shown ∙ read_whole octets (length out) some c.requires.room in
+    let whole = c.confirm_read.ensures.answer ∙ ap (λ xs. read_replied xs (length out)) shown ∙ read_whole octets (length out) some c.requires.room in
     record {
       reply = whole;
-      buffer = c.confirm-read.ensures.buffer ∙ (λ i. left (whole i) (read_reply (shown i)) out);
+      buffer = c.confirm_read.ensures.buffer ∙ (λ i. left (whole i) (read_reply (shown i)) out);
     }

@@ -3,5 +3,5 @@ use Rattle.sensor_begun.proofs.Sizes.{last_field, in_some}
 use Rattle.sensor_begun.proofs.sensor.Sensor.open_keypad.Goals as goal
 
 -- the device is no larger than the sensor
-pub open-keypad-requires : goal.open-keypad-requires
-open-keypad-requires g c = lt_of_le_of_lt (le_trans (in_some _ _ _) (last_field _ _ _)) c.requires-raw.1
+pub open_keypad-requires : goal.open_keypad-requires
+open_keypad-requires g c = lt_of_le_of_lt (le_trans (in_some _ _ _) (last_field _ _ _)) c.requires-raw.1

@@ -8,7 +8,7 @@ returns g c =
     let m = g.K.Kind.meaning in
     let out = c.args.out.now in
     let device-is : Some c.in-Some.device ≡ c.args.self.now.device = sym c.in-Some.is in
-    let reading-is : Some c.in-Some-decode-reading.reading ≡ decoded m c.args.reading = c.in-Some-decode-reading.ensures in
+    let reading-is : Some c.in-Some-decode_reading.reading ≡ decoded m c.args.reading = c.in-Some-decode_reading.ensures in
     record {
       reply = c.sample.ensures.reply ∙ (λ i. reply_by m (device-is i) (reading-is i) out);
       sensor = (λ i. record { device = Some (c.sample.ensures.device i) }) ∙ (λ i. record { device = after_by m (device-is i) (reading-is i) out });

@@ -4,11 +4,11 @@ use Rattle.sensor_begun.specs.Setups.{reply_of, device_of}
 use Rattle.sensor_begun.proofs.Sizes.{last_field, in_some}
 use Rattle.sensor_begun.proofs.sensor.Sensor.set_up.Goals as goal
 
-pub returns-in-err-device : goal.returns-in-err-device
-returns-in-err-device g c =
+pub returns-in_err-device : goal.returns-in_err-device
+returns-in_err-device g c =
     let m = g.K.Kind.meaning in
-    let p = err_from_is_err_and c.from-residual.result c.from-residual.ensures.1 in
-    let e = c.in-err-device.ensures in
+    let p = err_from_is_err_and c.from_residual.result c.from_residual.ensures.1 in
+    let e = c.in_err-device.ensures in
     record { reply = p.1 ∙ ap Err p.2 ∙ ap (reply_of m) e; sensor = ap (device_of m c.args.self.now) e }
 
 -- the device is no larger than the sensor
