@@ -1,8 +1,8 @@
 -- A call that is accepted in one run is accepted in another where the same is open, selected and taught.
-use Rattle.std.proofs.Common.{◌≡◌, ℕ, min, max, Bool, true, false, cond, not, ◌&&◌, eqb, ltb, leb, List, [], ◌∷◌, get_or, Some, None, Ok, Err, Option, Result, sym, refl, ap, ◌∙◌, subst}
+use Rattle.std.proofs.Common.{◌≡◌, ℕ, Bool, true, false, cond, ltb, List, [], get_or, Some, None, Ok, Err, Option, Result, sym, refl, ap, ◌∙◌, subst}
 use Rattle.faults.specs.declared.Fault.{Fault}
 use Rattle.faults.specs.declared.Place.{Place}
-use Rattle.faults.specs.declared.Denial.TheVariants.{NoSetpoint, NotInState, ResponseBuffer, TeachRunning, NoValue}
+use Rattle.faults.specs.declared.Denial.TheVariants.{NotInState, ResponseBuffer, TeachRunning}
 use Rattle.faults.specs.Denials.{fault, fault_at}
 use Rattle.isdu.specs.declared.Direction.{Direction}
 use Rattle.isdu.specs.declared.Direction.TheVariants.{Read, Write}
@@ -13,9 +13,9 @@ use Rattle.channels.specs.declared.table.Table.{Table}
 use Rattle.teach.specs.declared.command.Command.{Command}
 use Rattle.objects.specs.declared.object.Object.{Object}
 use Rattle.objects.specs.declared.object.Object.TheVariants.{SystemCommand, TeachSelect, TeachResult, Setpoints, Configuration}
-use Rattle.objects.specs.Objects.{access_checked, from_to, place_of}
+use Rattle.objects.specs.Objects.{access_checked, place_of}
 use Rattle.objects.specs.Writes.{then}
-use Rattle.rules.specs.Lessons.{Goes, is_idle}
+use Rattle.rules.specs.Lessons.{Goes}
 use Rattle.rules.specs.Calls.{Call, sample, request, open_keypad, write_keypad, close_keypad, restart, Order, to_sample, to_read, to_select, to_command, to_write, to_open, to_close, to_restart, Act, samples, shows, selects, commands, writes, opens, closes, restarts}
 use Rattle.rules.specs.Rules.{Fixed, Held, asked, checked, commanded, heard, keypad_asked, object_asked, octets_of, performed, row_in, select_asked, ticket_checked, write_asked}
 use Rattle.rules.specs.Events.{resting}

@@ -1,5 +1,5 @@
 -- The values that a teach holds are those captured in it by the calls, and what it stores lies within them.
-use Rattle.std.proofs.Common.{◌≡◌, ℕ, ◌≤◌, Bool, true, false, cond, eqb, ◌⊎◌, List, [], ◌∷◌, ◌++◌, Some, None, Ok, Err, Option, Result, sym, refl, ap, ◌∙◌, subst, inl, inr, ⊎_elim, arith}
+use Rattle.std.proofs.Common.{◌≡◌, ℕ, ◌≤◌, Bool, true, false, cond, ◌⊎◌, List, [], ◌∷◌, Some, None, Ok, Err, Option, Result, sym, refl, ap, ◌∙◌, subst, inl, inr, ⊎_elim}
 use Rattle.std.specs.Option.{option_map}
 use Rattle.std.proofs.lemmas.Bool.{eq-eqb}
 use Rattle.faults.specs.declared.Fault.{Fault}
@@ -19,7 +19,7 @@ use Rattle.teach.specs.declared.machine.Change.TheVariants.{Keep, Set}
 use Rattle.teach.specs.declared.machine.Flags.{Flags}
 use Rattle.teach.specs.declared.machine.Points.{Points}
 use Rattle.teach.specs.declared.machine.Verdict.{Verdict}
-use Rattle.teach.specs.declared.machine.Verdict.TheVariants.{Open, Fails, Stores}
+use Rattle.teach.specs.declared.machine.Verdict.TheVariants.{Stores}
 use Rattle.teach.specs.declared.terms.Terms.{Terms}
 use Rattle.teach.specs.Evaluation.{evaluate_dynamic, evaluate_single}
 use Rattle.teach.specs.Flags.{both_set}
@@ -27,9 +27,9 @@ use Rattle.teach.specs.Machine.{same_setpoint, with_point}
 use Rattle.rules.specs.Lessons.{Goes, Stage, Values, idle, busy_single, busy_two, wait_two, dyn_start, wait_dyn, ends, evaluated, fed, full, goes, highest, is_idle, lowest, row, values}
 use Rattle.rules.specs.Calls.{Call, Act, samples, shows, selects, commands, writes, opens, closes, restarts}
 use Rattle.rules.specs.Rules.{Fixed, Held, after, checked, first_day, heard, next, next_by, row_in, setpoint_part, stored_parts, with_parts}
-use Rattle.rules.specs.Events.{resting, value_of, verdict_of}
+use Rattle.rules.specs.Events.{value_of, verdict_of}
 use Rattle.rules.specs.Settings.{gives}
-use Rattle.rules.specs.Stores.{Captured, CapturedBy, Captures, Lasts, Purpose, StoredWithin, StoresWithinCaptured, capturing, discards, held_in, point, same_teachpoint, setpoint_of, taken_anew, whole}
+use Rattle.rules.specs.Stores.{Captured, CapturedBy, Captures, Lasts, Purpose, StoredWithin, StoresWithinCaptured, capturing, discards, held_in, point, setpoint_of, taken_anew, whole}
 use Rattle.rules.proofs.Each.{Each, each_at, each_test}
 use Rattle.rules.proofs.Extremes.{Among, Within, among_append, highest_among, lowest_among}
 use Rattle.rules.proofs.Origins.{Origin, origin}

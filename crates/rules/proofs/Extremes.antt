@@ -1,10 +1,10 @@
 -- The lowest and the highest of a list of values.
-use Rattle.std.proofs.Common.{◌≡◌, Bool, true, false, cond, ◌⊎◌, List, [], ◌∷◌, ◌++◌, ◌≤ℤ◌, refl, inl, inr, ⊎_elim, arith}
+use Rattle.std.proofs.Common.{◌≡◌, ◌⊎◌, List, [], ◌∷◌, ◌++◌, ◌≤ℤ◌, refl, inl, inr, ⊎_elim, arith}
 use lib.Signed.{≤ℤ_refl}
 use Rattle.std.proofs.lemmas.Int.{ints}
 use Rattle.std.proofs.lemmas.Bool.{cond_both}
 use Rattle.kinds.specs.Meaning.{Meaning, Lawful, at_most, greater, lesser}
-use Rattle.rules.specs.Lessons.{Values, highest, lowest, teachpoint, values}
+use Rattle.rules.specs.Lessons.{highest, lowest, teachpoint, values}
 
 -- a is one of the values
 abbrev pub Among : {V : Type 0} → V → List V → Type 0

@@ -1,5 +1,5 @@
 -- Where what a call does comes from: the teach's row or the fed value, and the checks that it passed.
-use Rattle.std.proofs.Common.{◌≡◌, ℕ, ◌≤◌, max, Bool, true, false, cond, not, ◌&&◌, eqb, ltb, leb, List, [], ◌∷◌, get_or, Some, None, Ok, Err, Option, Result, sym, refl, ap, ◌∙◌, subst, arith}
+use Rattle.std.proofs.Common.{◌≡◌, ℕ, ◌≤◌, max, Bool, true, false, cond, not, ◌&&◌, eqb, ltb, leb, List, [], ◌∷◌, get_or, Some, None, Ok, Err, Option, Result, refl, subst, arith}
 use Rattle.std.proofs.lemmas.Bool.{and_from, le-leb, ltb-false}
 use Rattle.faults.specs.declared.Fault.{Fault}
 use Rattle.faults.specs.declared.Place.{Place}
@@ -22,7 +22,7 @@ use Rattle.objects.specs.Objects.{access_checked, from_to, place_of}
 use Rattle.objects.specs.Writes.{then}
 use Rattle.rules.specs.Lessons.{Goes, is_idle}
 use Rattle.rules.specs.Calls.{Call, sample, request, open_keypad, write_keypad, close_keypad, restart, Order, to_sample, to_read, to_select, to_command, to_write, to_open, to_close, to_restart, Act, samples, shows, selects, commands, writes, opens, closes, restarts}
-use Rattle.rules.specs.Rules.{Fixed, Held, asked, checked, commanded, configuration_parts, heard, keypad_asked, numbered_part, object_asked, octets_of, performed, reading_of, row_in, sample_asked, select_asked, setpoint_asked, setpoint_parts, no_place, ticket_checked, write_asked}
+use Rattle.rules.specs.Rules.{Fixed, Held, asked, checked, commanded, configuration_parts, heard, keypad_asked, numbered_part, object_asked, octets_of, performed, reading_of, row_in, sample_asked, setpoint_asked, setpoint_parts, no_place, ticket_checked, write_asked}
 
 pub ok_same : {A : Type 0} (a b : A) → ◌≡◌ {A = Result A Fault} (Ok a) (Ok b) → a ≡ b
 ok_same a b e = cc

@@ -1,5 +1,5 @@
 -- Each setting of a channel is the one last written or stored, else the set-up's.
-use Rattle.std.proofs.Common.{◌≡◌, ℕ, zero, suc, ◌-◌, Bool, true, false, cond, ◌&&◌, eqb, ◌⊎◌, List, [], ◌∷◌, ◌++◌, replicate, Some, None, Ok, Err, Option, Result, unwrap_or, sym, refl, ap, ◌∙◌, inl, inr, ⊎_elim, arith}
+use Rattle.std.proofs.Common.{◌≡◌, ℕ, zero, suc, ◌-◌, Bool, true, false, cond, eqb, List, [], ◌∷◌, ◌++◌, replicate, Some, None, Ok, Err, Option, Result, unwrap_or, sym, refl, ap, ◌∙◌, ⊎_elim, arith}
 use Rattle.std.specs.Option.{option_map}
 use Rattle.std.proofs.lemmas.Bool.{cases_Bool, eqb-true}
 use Rattle.faults.specs.declared.Fault.{Fault}
@@ -9,13 +9,12 @@ use Rattle.channels.specs.declared.reading.Reading.TheVariants.{Value, Below, Ab
 use Rattle.channels.specs.declared.row.Row.{Row}
 use Rattle.channels.specs.declared.table.Table.{Table}
 use Rattle.channels.specs.Judging.{judged}
-use Rattle.channels.specs.Table.{fresh_row, fresh_table, judged_table, nth, rested, rested_table, row_at}
-use Rattle.teach.specs.declared.command.Setpoint.{Setpoint}
+use Rattle.channels.specs.Table.{fresh_row, fresh_table, judged_table, nth, rested, row_at}
 use Rattle.teach.specs.declared.machine.Verdict.{Verdict}
 use Rattle.teach.specs.declared.machine.Verdict.TheVariants.{Open, Fails, Stores}
 use Rattle.rules.specs.Calls.{Call, Part, sets_sp1, sets_sp2, sets_logic, sets_mode, sets_hysteresis, Act, samples, shows, selects, commands, writes, opens, closes, restarts}
 use Rattle.rules.specs.Rules.{Fixed, Held, after, checked, first_day, given, next, next_by, setpoint_part, stored, stored_parts, with_part, with_parts}
-use Rattle.rules.specs.Settings.{LastWrittenStands, Latest, given_in, gives, hysteresis_of, latest, logic_of, mode_of, sp1_of, sp2_of}
+use Rattle.rules.specs.Settings.{LastWrittenStands, given_in, gives, hysteresis_of, latest, logic_of, mode_of, sp1_of, sp2_of}
 use Rattle.rules.proofs.Tables.{given_at, given_other, judged_at, rested_at, row_there}
 
 module _ {V : Type 0} where

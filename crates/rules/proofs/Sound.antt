@@ -1,13 +1,12 @@
 -- Through every call the selected channel is there, and the table has eight rows.
-use Rattle.std.proofs.Common.{◌≡◌, ℕ, zero, suc, ◌-◌, ◌<◌, ◌≤◌, min, Bool, true, false, cond, leb, List, [], ◌∷◌, ◌++◌, map, length, take, drop, set, Some, None, Ok, Err, Option, Result, sym, refl, ap, ◌∙◌, arith, length-append, length-drop, length-set, length-take}
-use lib.ListN.{length-map}
-use Rattle.std.proofs.lemmas.Bool.{and_from, le-leb, leb-true}
+use Rattle.std.proofs.Common.{◌≡◌, ℕ, zero, suc, ◌-◌, ◌<◌, ◌≤◌, min, Bool, true, false, cond, leb, List, [], ◌∷◌, ◌++◌, map, length, take, drop, set, Some, None, Ok, Err, Option, Result, refl, ap, ◌∙◌, arith, length-set}
+use Rattle.std.proofs.lemmas.Bool.{and_from, le-leb}
 use Rattle.faults.specs.declared.Fault.{Fault}
 use Rattle.kinds.specs.Meaning.{Meaning}
 use Rattle.channels.specs.declared.row.Row.{Row}
 use Rattle.channels.specs.declared.table.Table.{Table}
 use Rattle.channels.specs.Judging.{judged}
-use Rattle.channels.specs.Table.{fresh_table, has_channel, judged_table, nth, rested, row_at, rows_present, with_row}
+use Rattle.channels.specs.Table.{has_channel, judged_table, nth, rested, row_at, rows_present}
 use Rattle.teach.specs.declared.machine.Verdict.{Verdict}
 use Rattle.teach.specs.declared.machine.Verdict.TheVariants.{Open, Fails, Stores}
 use Rattle.rules.specs.Calls.{Call, Part, Act, samples, shows, selects, commands, writes, opens, closes, restarts}

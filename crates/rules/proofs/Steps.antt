@@ -1,5 +1,5 @@
 -- What one call makes of one channel's row.
-use Rattle.std.proofs.Common.{◌≡◌, ℕ, Bool, true, false, cond, not, ◌&&◌, ◌||◌, eqb, ◌⊎◌, List, [], ◌∷◌, Some, None, Ok, Err, Option, Result, sym, refl, ap, ◌∙◌, inl, inr, ⊎_elim, arith}
+use Rattle.std.proofs.Common.{◌≡◌, ℕ, Bool, true, false, not, ◌&&◌, ◌||◌, eqb, List, [], ◌∷◌, Some, None, Ok, Err, Option, Result, sym, refl, ap, ◌∙◌, ⊎_elim, arith}
 use Rattle.std.specs.Option.{option_map}
 use Rattle.std.proofs.lemmas.Bool.{cases_Bool, eqb-true, false≢true, true≢false}
 use Rattle.faults.specs.declared.Fault.{Fault}
@@ -10,13 +10,12 @@ use Rattle.channels.specs.declared.row.Row.{Row}
 use Rattle.channels.specs.declared.table.Table.{Table}
 use Rattle.channels.specs.Judging.{judged, state_after}
 use Rattle.channels.specs.Table.{judged_table, row_at}
-use Rattle.teach.specs.declared.command.Setpoint.TheVariants.{Sp1, Sp2}
 use Rattle.teach.specs.declared.machine.Verdict.{Verdict}
 use Rattle.teach.specs.declared.machine.Verdict.TheVariants.{Open, Fails, Stores}
 use Rattle.rules.specs.Lessons.{Goes}
 use Rattle.rules.specs.Calls.{Part, sets_sp1, sets_sp2, sets_logic, sets_mode, sets_hysteresis, Act, samples, shows, selects, commands, writes, opens, closes, restarts}
 use Rattle.rules.specs.Rules.{Fixed, Held, given, next_by, setpoint_part, stored, with_part, with_parts}
-use Rattle.rules.specs.Events.{active_in, is_restart, is_stored, state_of, touches, value_of}
+use Rattle.rules.specs.Events.{active_in, is_restart, is_stored, state_of, touches}
 use Rattle.rules.specs.Turns.{Turned}
 use Rattle.rules.proofs.Tables.{given_at, given_other, judged_at, stored_other}
 

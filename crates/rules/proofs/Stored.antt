@@ -19,7 +19,7 @@ use Rattle.teach.specs.Flags.{both_set}
 use Rattle.teach.specs.Machine.{same_setpoint, with_point}
 use Rattle.rules.specs.Lessons.{Goes, Stage, Values, idle, busy_single, busy_two, wait_two, dyn_start, wait_dyn, ends, evaluated, fed, full, goes, highest, lowest, row, teachpoint, values}
 use Rattle.rules.specs.Calls.{Act, samples, shows, selects, commands, writes, opens, closes, restarts}
-use Rattle.rules.specs.Rules.{Fixed, Held, heard, row_in}
+use Rattle.rules.specs.Rules.{Fixed, Held, heard}
 use Rattle.rules.specs.Events.{verdict_of}
 use Rattle.rules.proofs.Extremes.{Within, both_within, teachpoint_within}
 use Rattle.rules.proofs.Origins.{Origin}

@@ -1,7 +1,7 @@
 -- An unfinished teach or another channel never shows in a channel: each step keeps the struck run beside the full one.
-use Rattle.std.proofs.Common.{◌≡◌, ℕ, Bool, true, false, cond, not, ◌&&◌, eqb, ◌⊎◌, List, [], ◌∷◌, Some, None, Ok, Err, Option, Result, sym, refl, ap, ◌∙◌, subst, ap₂, inl, inr, ⊎_elim, arith}
+use Rattle.std.proofs.Common.{◌≡◌, ℕ, Bool, true, false, cond, not, ◌&&◌, eqb, List, [], ◌∷◌, Some, Ok, Err, Option, Result, sym, refl, ap, ◌∙◌, subst, ap₂, ⊎_elim, arith}
 use Rattle.std.specs.Option.{option_map}
-use Rattle.std.proofs.lemmas.Bool.{cases_Bool, eqb-true, false≢true, true≢false}
+use Rattle.std.proofs.lemmas.Bool.{cases_Bool, false≢true, true≢false}
 use Rattle.faults.specs.declared.Fault.{Fault}
 use Rattle.kinds.specs.Meaning.{Meaning}
 use Rattle.channels.specs.declared.reading.Reading.{Reading}
@@ -14,14 +14,14 @@ use Rattle.teach.specs.declared.machine.Change.TheVariants.{Keep}
 use Rattle.teach.specs.Flags.{changed}
 use Rattle.rules.specs.Lessons.{Goes, goes, idle, is_idle, row}
 use Rattle.rules.specs.Calls.{Call, Part, Act, samples, shows, selects, commands, writes, opens, closes, restarts}
-use Rattle.rules.specs.Rules.{Fixed, Held, checked, first_day, given, heard, next, next_by, row_in, selecting, shown, taken, with_channels, with_keypad, with_parts}
+use Rattle.rules.specs.Rules.{Fixed, Held, checked, first_day, given, heard, next, next_by, row_in, selecting, taken, with_channels, with_keypad, with_parts}
 use Rattle.rules.specs.Events.{is_accepted, is_stored, resting, stores}
 use Rattle.rules.specs.Strikes.{AllAccepted, ForeignCallsLeaveNoTrace, after_each, after_staying, finished, shown_in, shows_of, stays, stays_by, struck}
 use Rattle.rules.proofs.Again.{Again, again}
 use Rattle.rules.proofs.Each.{each_at}
 use Rattle.rules.proofs.Origins.{Origin, origin}
 use Rattle.rules.proofs.Settings.{given_to}
-use Rattle.rules.proofs.Struck.{Beside, RowFact, Same, both_taken, flags_for, given_count, heard_ends, heard_idle, heard_onward, idle_is, onward_flags, row_fact, row_same, stored_count}
+use Rattle.rules.proofs.Struck.{Beside, RowFact, both_taken, flags_for, given_count, heard_ends, heard_idle, heard_onward, idle_is, onward_flags, row_fact, row_same, stored_count}
 use Rattle.rules.proofs.Tables.{given_other, judged_at, rested_at, stored_other}
 
 -- ---- tests. s: channel k is selected; i: no teach runs; d: the call stores; j: no teach runs after it; z: the teach is

@@ -1,5 +1,5 @@
 -- The full run and the run with foreign calls struck out, side by side.
-use Rattle.std.proofs.Common.{◌≡◌, ℕ, Bool, true, false, cond, not, ◌&&◌, eqb, ◌⊎◌, List, [], ◌∷◌, Some, None, Option, sym, refl, ap, ◌∙◌, subst, inl, inr, ⊎_elim, arith}
+use Rattle.std.proofs.Common.{◌≡◌, ℕ, Bool, true, false, cond, ◌&&◌, eqb, ◌⊎◌, List, [], ◌∷◌, Some, None, Option, sym, refl, ap, ◌∙◌, inl, inr}
 use Rattle.std.specs.Option.{option_map}
 use Rattle.std.proofs.lemmas.Bool.{false≢true, true≢false}
 use Rattle.kinds.specs.Meaning.{Meaning}
@@ -27,7 +27,7 @@ use Rattle.teach.specs.Machine.{same_setpoint, with_point}
 use Rattle.rules.specs.Lessons.{Goes, Stage, Values, idle, busy_single, busy_two, wait_two, dyn_start, wait_dyn, ends, evaluated, fed, full, goes, highest, is_idle, lowest, row, values}
 use Rattle.rules.specs.Calls.{Part}
 use Rattle.rules.specs.Rules.{Fixed, Held, given, heard, on_row, setpoint_part, stored, stored_parts, taken, with_parts}
-use Rattle.rules.specs.Events.{is_stored, resting}
+use Rattle.rules.specs.Events.{is_stored}
 use Rattle.rules.proofs.Each.{Each, each_test}
 use Rattle.rules.proofs.Settings.{stored_to}
 

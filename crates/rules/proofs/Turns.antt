@@ -1,16 +1,16 @@
 -- Two turns in a row of a Single Point or Window channel come at values more than its hysteresis apart.
-use Rattle.std.proofs.Common.{◌≡◌, ℕ, Bool, true, false, cond, not, ◌&&◌, ◌||◌, ◌⊎◌, List, [], ◌∷◌, ◌++◌, ◌≤ℤ◌, ◌<ℤ◌, Some, Ok, sym, refl, ap, ◌∙◌, subst, inl, inr, ⊎_elim, arith}
-use lib.Signed.{le_z, lt_z}
+use Rattle.std.proofs.Common.{◌≡◌, ℕ, Bool, true, false, cond, not, ◌&&◌, ◌||◌, ◌⊎◌, List, [], ◌∷◌, ◌≤ℤ◌, ◌<ℤ◌, Some, sym, refl, ap, ◌∙◌, inl, inr, ⊎_elim, arith}
+use lib.Signed.{le_z}
 use Rattle.std.proofs.lemmas.Int.{ints}
 use Rattle.kinds.specs.Meaning.{Meaning, Lawful, at_most, under, lesser, greater}
 use Rattle.channels.specs.declared.reading.Reading.TheVariants.{Value}
 use Rattle.channels.specs.declared.row.Row.{Row}
 use Rattle.channels.specs.Judging.{judged, state_after}
 use Rattle.channels.specs.Table.{row_at}
-use Rattle.rules.specs.Calls.{Call, samples}
+use Rattle.rules.specs.Calls.{Call}
 use Rattle.rules.specs.Rules.{Fixed, Held, after, checked, next, next_by}
 use Rattle.rules.specs.Events.{touches}
-use Rattle.rules.specs.Turns.{Apart, Still, Turn, TurnsApart, TwoTurns}
+use Rattle.rules.specs.Turns.{Apart, Still, TurnsApart}
 use Rattle.rules.proofs.Steps.{Turning, hold, sample_row, turning}
 
 module _ {V : Type 0} (m : Meaning V) (l : Lawful V m) where

@@ -1,5 +1,5 @@
 -- What the rules tell of a call: by what value it is judged, what it writes, and what comes of a teach.
-use Rattle.std.specs.Prelude.{ℕ, Bool, true, false, cond, ◌&&◌, ◌||◌, List, [], Some, None, Ok, Err, Option, Result, ◌==◌}
+use Rattle.std.specs.Prelude.{ℕ, Bool, true, false, ◌&&◌, ◌||◌, Some, None, Ok, Err, Option, Result, ◌==◌}
 use Rattle.faults.specs.declared.Fault.{Fault}
 use Rattle.channels.specs.declared.reading.Reading.{Reading}
 use Rattle.channels.specs.declared.reading.Reading.TheVariants.{Value, Below, Above, NoData}
@@ -7,9 +7,9 @@ use Rattle.channels.specs.declared.row.Row.{Row}
 use Rattle.channels.specs.Table.{row_at}
 use Rattle.teach.specs.declared.machine.Verdict.{Verdict}
 use Rattle.teach.specs.declared.machine.Verdict.TheVariants.{Open, Fails, Stores}
-use Rattle.rules.specs.Lessons.{Goes, is_idle}
-use Rattle.rules.specs.Calls.{Part, Act, samples, shows, selects, commands, writes, opens, closes, restarts}
-use Rattle.rules.specs.Rules.{Held, stored_parts}
+use Rattle.rules.specs.Lessons.{is_idle}
+use Rattle.rules.specs.Calls.{Act, samples, shows, selects, commands, writes, opens, closes, restarts}
+use Rattle.rules.specs.Rules.{Held}
 
 module _ {V : Type 0} where
   -- the call passes every check

@@ -12,7 +12,7 @@ use Rattle.teach.specs.declared.machine.Change.TheVariants.{Keep, Clear, Set}
 use Rattle.teach.specs.declared.machine.Flags.{Flags}
 use Rattle.teach.specs.declared.machine.Points.{Points}
 use Rattle.teach.specs.declared.machine.Verdict.{Verdict}
-use Rattle.teach.specs.declared.machine.Verdict.TheVariants.{Open, Fails, Stores}
+use Rattle.teach.specs.declared.machine.Verdict.TheVariants.{Open}
 use Rattle.teach.specs.declared.terms.Terms.{Terms}
 use Rattle.teach.specs.Evaluation.{evaluate_single, evaluate_two, evaluate_dynamic}
 use Rattle.teach.specs.Flags.{both_set, changed, flag_bits, no_flags}

@@ -30,7 +30,7 @@ use Rattle.objects.specs.declared.object.Object.TheVariants.{SystemCommand, Teac
 use Rattle.objects.specs.Objects.{access_checked, from_to, place_of}
 use Rattle.objects.specs.Reads.{configuration_read, row_read, setpoints_read}
 use Rattle.objects.specs.Writes.{code_checked, part, setpoint_checked, then}
-use Rattle.rules.specs.Lessons.{Goes, Lesson, Stage, fed, goes, idle, is_idle, no_lesson, row, stepped, teach_result}
+use Rattle.rules.specs.Lessons.{Goes, Lesson, Stage, fed, goes, is_idle, no_lesson, row, stepped, teach_result}
 use Rattle.rules.specs.Calls.{Call, sample, request, open_keypad, write_keypad, close_keypad, restart, Part, sets_sp1, sets_sp2, sets_logic, sets_mode, sets_hysteresis, Order, to_sample, to_read, to_select, to_command, to_write, to_open, to_close, to_restart, Act, samples, shows, selects, commands, writes, opens, closes, restarts, Reply, accepted, ticket, denied}
 
 -- what a set-up fixes for the day

@@ -1,5 +1,5 @@
 -- Each setting of a channel is the one last written or stored, else the set-up's.
-use Rattle.std.specs.Prelude.{◌≡◌, ℕ, Bool, cond, List, [], ◌∷◌, ◌++◌, Some, None, Ok, Err, Option, Result, ◌==◌}
+use Rattle.std.specs.Prelude.{◌≡◌, ℕ, cond, List, [], ◌∷◌, ◌++◌, Some, None, Ok, Err, Option, Result, ◌==◌}
 use Rattle.std.specs.Option.{unwrap_or}
 use Rattle.faults.specs.declared.Fault.{Fault}
 use Rattle.kinds.specs.Meaning.{Meaning}

@@ -1,5 +1,5 @@
 -- Two turns in a row of a Single Point or Window channel come at values more than its hysteresis apart.
-use Rattle.std.specs.Prelude.{◌≡◌, ℕ, Bool, true, false, not, ◌⊎◌, List, [], ◌∷◌, ◌++◌, ◌<ℤ◌, Some, Result}
+use Rattle.std.specs.Prelude.{◌≡◌, ℕ, false, not, ◌⊎◌, List, [], ◌∷◌, ◌++◌, ◌<ℤ◌, Some, Result}
 use Rattle.faults.specs.declared.Fault.{Fault}
 use Rattle.kinds.specs.Meaning.{Meaning, lesser, greater}
 use Rattle.channels.specs.declared.row.Row.{Row}

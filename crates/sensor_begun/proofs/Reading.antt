@@ -1,5 +1,5 @@
 -- What a read shows has from one octet to eight, so it fits the buffer that it is gathered in.
-use Rattle.std.proofs.Common.{◌≡◌, ℕ, ◌-◌, ◌≤◌, min, true, List, [], ◌∷◌, ◌++◌, length, take, drop, is_some, Some, None, Option, unwrap_or, sym, ap, ◌∙◌, arith}
+use Rattle.std.proofs.Common.{◌≡◌, ℕ, ◌-◌, ◌≤◌, min, true, List, ◌++◌, length, take, drop, is_some, Some, None, Option, unwrap_or, sym, ap, ◌∙◌, arith}
 use lib.Seq.{take-append_seam}
 use Rattle.octets.specs.Buffers.{fitting, placed}
 use Rattle.octets.proofs.Rooms.{fitting_room, placed_room}

@@ -1,8 +1,7 @@
 -- With room for 16 octets every response is written whole.
-use Rattle.std.proofs.Common.{◌≡◌, ℕ, ◌+◌, ◌≤◌, Bool, true, false, cond, leb, List, [], ◌∷◌, ◌++◌, length, Ok, Err, Result, sym, refl, ap, ◌∙◌, arith, le-ltb, ne_eqb}
+use Rattle.std.proofs.Common.{◌≡◌, ℕ, ◌+◌, ◌≤◌, Bool, true, false, cond, leb, List, ◌++◌, length, Ok, ◌∙◌, arith, le-ltb, ne_eqb}
 use Rattle.std.proofs.lemmas.List.{length_push}
 use Rattle.std.proofs.lemmas.Bool.{cond-false}
-use Rattle.faults.specs.declared.Fault.{Fault}
 use Rattle.isdu.specs.CheckOctet.{checked, exclusive_or}
 use Rattle.isdu.specs.Composing.{delivered, heading}
 use Rattle.isdu.specs.Replies.{read_replied, read_reply}

@@ -1,5 +1,5 @@
 -- A call that acts on the device: what it comes to, and the sensor afterwards.
-use Rattle.std.specs.Prelude.{Some, None, Ok, Err, Option, Result}
+use Rattle.std.specs.Prelude.{Some, None, Err, Option, Result}
 use Rattle.faults.specs.declared.Fault.{Fault}
 use Rattle.faults.specs.declared.Denial.TheVariants.{Blank}
 use Rattle.faults.specs.Denials.{fault}

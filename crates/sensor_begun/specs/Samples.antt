@@ -1,5 +1,5 @@
 -- A sample: its checks in their order, what it leaves in the sensor and in the buffer.
-use Rattle.std.specs.Prelude.{ℕ, Bool, cond, List, length, Some, None, Ok, Err, Option, Result, nat_lt}
+use Rattle.std.specs.Prelude.{ℕ, cond, List, length, Some, None, Ok, Err, Option, Result, nat_lt}
 use Rattle.std.specs.Borrow.{Bor}
 use Rattle.octets.specs.Buffers.{left}
 use Rattle.faults.specs.declared.Fault.{Fault}

@@ -1,5 +1,5 @@
 -- Set-up: its checks in their order, and the sensor's first day.
-use Rattle.std.specs.Prelude.{ℕ, Bool, true, false, cond, not, ◌&&◌, ◌||◌, ℤ, Some, None, Ok, Err, Option, Result}
+use Rattle.std.specs.Prelude.{ℕ, Bool, false, cond, not, ◌&&◌, ℤ, Some, None, Ok, Err, Option, Result}
 use Rattle.std.specs.Int.{w8}
 use Rattle.std.proofs.Common.{of_z}
 use Rattle.faults.specs.declared.Fault.{Fault}

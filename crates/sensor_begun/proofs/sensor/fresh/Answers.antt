@@ -1,4 +1,4 @@
-use Rattle.std.proofs.Common.{◌≡◌, false, get_or, ap, ◌∙◌, w8, SFits, of_z, rules}
+use Rattle.std.proofs.Common.{false, get_or, ap, ◌∙◌, w8, SFits, of_z, rules}
 use Rattle.std.proofs.lemmas.Int.{to_z-of_z}
 use Rattle.sensor_begun.specs.Setups.{terms_of}
 use Rattle.sensor_begun.proofs.sensor.fresh.Goals as goal

@@ -1,4 +1,4 @@
-use Rattle.std.proofs.Common.{◌≡◌, ap, ◌∙◌}
+use Rattle.std.proofs.Common.{ap, ◌∙◌}
 use Rattle.octets.specs.Buffers.{over}
 use Rattle.isdu.specs.Views.{asks}
 use Rattle.sensor_begun.specs.Requests.{Answered, access_answered}

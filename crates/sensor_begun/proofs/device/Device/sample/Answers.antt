@@ -1,14 +1,13 @@
-use Rattle.std.proofs.Common.{◌≡◌, ℕ, ◌<◌, ◌≤◌, Bool, true, false, cond, ltb, List, length, Some, Ok, Err, Result, sym, refl, ap, ◌∙◌, arith, rules, le-ltb, lt-ltb}
+use Rattle.std.proofs.Common.{◌≡◌, ℕ, ◌<◌, ◌≤◌, Bool, cond, length, Ok, Err, Result, sym, ap, ◌∙◌, arith, le-ltb, lt-ltb}
 use Rattle.std.specs.Option.{ok_or}
-use Rattle.octets.specs.Buffers.{left, over, fitting, placed}
+use Rattle.octets.specs.Buffers.{left, fitting, placed}
 use Rattle.octets.proofs.Rooms.{fitting_room, placed_room}
 use Rattle.faults.specs.declared.Fault.{Fault}
 use Rattle.faults.specs.declared.Denial.TheVariants.{BufferTooShort}
 use Rattle.faults.specs.Denials.{fault}
 use Rattle.channels.specs.Readings.{block, block_length}
-use Rattle.channels.specs.Table.{signals_octet, judged_table}
+use Rattle.channels.specs.Table.{signals_octet}
 use Rattle.channels.proofs.Blocks.{block_long}
-use Rattle.sensor_begun.specs.Devices.{with_channels}
 use Rattle.sensor_begun.specs.Samples.{counted_in, fed_device, judged_by, judged_device, sampled, process_data}
 use Rattle.sensor_begun.proofs.device.Device.sample.Goals as goal
 

@@ -1,4 +1,4 @@
-use Rattle.std.proofs.Common.{◌≡◌, Some, sym, ap, ◌∙◌, le_trans, lt_of_le_of_lt}
+use Rattle.std.proofs.Common.{◌≡◌, Some, sym, ◌∙◌, le_trans, lt_of_le_of_lt}
 use Rattle.sensor_begun.specs.Samples.{decoded, reply_by, after_by, buffer_by}
 use Rattle.sensor_begun.proofs.Sizes.{last_field, in_some}
 use Rattle.sensor_begun.proofs.sensor.Sensor.sample.Goals as goal
