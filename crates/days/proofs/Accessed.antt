@@ -1,11 +1,9 @@
 -- What a write has passed once its access is granted: its direction, its length, its subindex, and that its channel is there.
-use Rattle.std.proofs.Common.{◌≡◌, ℕ, ◌%◌, ◌≤◌, Bool, true, false, cond, not, eqb, ltb, List, [], ◌∷◌, length, get_or, Some, None, Ok, Err, Option, Result, sym, refl, ap, ◌∙◌, subst, arith}
+use Rattle.std.proofs.Common.{◌≡◌, ℕ, ◌%◌, ◌≤◌, Bool, true, false, cond, not, eqb, ltb, length, Some, None, Ok, Err, Option, sym, refl, ap, ◌∙◌, subst, arith}
 use Rattle.std.proofs.lemmas.Bool.{ltb-false, not-false}
-use Rattle.faults.specs.declared.Fault.{Fault}
 use Rattle.faults.specs.declared.Denial.TheVariants.{DataTooLong, DataTooShort, NoIndex, NoSubindex, WriteUnderKeypad, WrongDirection}
 use Rattle.faults.specs.Denials.{fault_at}
-use Rattle.isdu.specs.declared.Direction.{Direction}
-use Rattle.isdu.specs.declared.Direction.TheVariants.{Read, Write}
+use Rattle.isdu.specs.declared.Direction.TheVariants.{Write}
 use Rattle.isdu.specs.Requests.{Asked}
 use Rattle.kinds.specs.Meaning.{Meaning}
 use Rattle.channels.specs.declared.table.Table.{Table}

@@ -1,5 +1,5 @@
 -- A request is answered, and leaves the device, as the rules say.
-use Rattle.std.proofs.Common.{◌≡◌, ℕ, max, Bool, true, false, cond, eqb, ltb, List, [], ◌∷◌, length, get_or, Some, None, Ok, Err, Option, Result, sym, refl, ap, ◌∙◌, subst}
+use Rattle.std.proofs.Common.{◌≡◌, ℕ, max, Bool, true, false, cond, ltb, List, [], ◌∷◌, length, get_or, Some, None, Ok, Err, Option, Result, sym, refl, ap, ◌∙◌, subst}
 use Rattle.std.specs.Option.{option_map}
 use Rattle.std.proofs.lemmas.Bool.{false≢true}
 use Rattle.faults.specs.declared.Fault.{Fault}
@@ -13,22 +13,22 @@ use Rattle.isdu.specs.Replies.{read_reply, write_reply}
 use Rattle.isdu.specs.Requests.{Asked}
 use Rattle.kinds.specs.Meaning.{Meaning}
 use Rattle.channels.specs.declared.row.Row.{Row}
-use Rattle.channels.specs.Table.{has_channel, row_at, rows_present, with_row}
+use Rattle.channels.specs.Table.{row_at, rows_present}
 use Rattle.teach.specs.declared.command.Command.{Command}
 use Rattle.teach.specs.Teaching as teaching
 use Rattle.teach.specs.Teaching.{known}
 use Rattle.objects.specs.declared.object.Object.{Object}
 use Rattle.objects.specs.declared.object.Object.TheVariants.{SystemCommand, TeachSelect, TeachResult, Setpoints, Configuration}
 use Rattle.objects.specs.Objects.{access_checked, place_of}
-use Rattle.objects.specs.Writes.{configuration_written, setpoints_written, single, then}
+use Rattle.objects.specs.Writes.{configuration_written, setpoints_written, then}
 use Rattle.sensor_begun.specs.declared.device.Device.{Device}
 use Rattle.sensor_begun.specs.Access as access
 use Rattle.sensor_begun.specs.Devices as devices
 use Rattle.sensor_begun.specs.Requests as requests
 use Rattle.sensor_begun.specs.Requests.{Answered}
-use Rattle.rules.specs.Calls.{Act, Order, Part, commands, request, selects, shows, to_command, to_read, to_select, to_write, writes}
+use Rattle.rules.specs.Calls.{Act, Part, request, to_command, to_select, to_write}
 use Rattle.rules.specs.Lessons.{Goes}
-use Rattle.rules.specs.Rules.{Fixed, Held, checked, commanded, configuration_parts, done, given, negative, object_asked, octets_of, on_row, performed, request_granted, response_of, row_in, setpoint_parts, taken, with_parts, write_asked}
+use Rattle.rules.specs.Rules.{Fixed, Held, checked, commanded, configuration_parts, done, negative, object_asked, octets_of, on_row, performed, request_granted, response_of, row_in, setpoint_parts, with_parts, write_asked}
 use Rattle.rules.specs.Sound.{Sound}
 use Rattle.rules.proofs.Sound.{row_exists}
 use Rattle.days.specs.Devices.{device_of, moved_of, teach_of}

@@ -1,8 +1,7 @@
 -- The machine with lowest, highest and count does what the rules say of the lists of captured values.
-use Rattle.std.proofs.Common.{◌≡◌, ℕ, suc, ◌+◌, Bool, true, false, cond, List, [], ◌∷◌, length, Some, None, Option, sym, refl, ap, ◌∙◌, add-one}
+use Rattle.std.proofs.Common.{◌≡◌, ◌+◌, Bool, true, false, cond, List, [], ◌∷◌, length, Some, None, Option, refl, ap, ◌∙◌, add-one}
 use Rattle.std.specs.Option.{option_map}
 use Rattle.kinds.specs.Meaning.{Meaning, greater, lesser}
-use Rattle.teach.specs.declared.capture.Captured.{Captured}
 use Rattle.teach.specs.declared.command.Command.{Command}
 use Rattle.teach.specs.declared.command.Setpoint.{Setpoint}
 use Rattle.teach.specs.declared.command.Step.{Step}
@@ -19,7 +18,7 @@ use Rattle.teach.specs.Flags.{both_set, flag_bits}
 use Rattle.teach.specs.Machine as machine
 use Rattle.teach.specs.Machine.{same_setpoint, with_point}
 use Rattle.teach.specs.Teaching as teaching
-use Rattle.rules.specs.Lessons.{Goes, Lesson, Stage, Values, idle, busy_single, busy_two, wait_two, dyn_start, wait_dyn, ends, evaluated, fed, full, goes, highest, is_idle, lowest, row, teach_result, teach_state, values}
+use Rattle.rules.specs.Lessons.{Lesson, Stage, Values, idle, busy_single, busy_two, wait_two, dyn_start, wait_dyn, ends, evaluated, fed, full, goes, highest, is_idle, lowest, row, teach_result, teach_state, values}
 use Rattle.days.specs.Devices.{band, machine_of, moved_of, point_of, points_of, summary, teach_of}
 
 through : {A B : Type 0} (f : A → B) (b : Bool) (x y : A) → cond b (f x) (f y) ≡ f (cond b x y)

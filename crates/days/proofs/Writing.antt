@@ -1,15 +1,14 @@
 -- The row that a write gives is the row with the parts that the rules take from its octets.
-use Rattle.std.proofs.Common.{◌≡◌, ℕ, zero, suc, ◌+◌, ◌*◌, ◌≤◌, Bool, true, false, cond, eqb, List, [], ◌∷◌, length, get_or, take, drop, Some, None, Ok, Err, Option, Result, sym, refl, ap, ◌∙◌, arith}
-use Rattle.std.proofs.lemmas.Bool.{cases_Bool, eqb-true, eqb-false}
+use Rattle.std.proofs.Common.{◌≡◌, ℕ, zero, suc, ◌+◌, ◌*◌, ◌≤◌, Bool, true, false, cond, eqb, List, [], ◌∷◌, length, get_or, take, drop, Some, None, Ok, Err, Option, Result, refl, arith}
 use Rattle.faults.specs.declared.Fault.{Fault}
 use Rattle.faults.specs.declared.Place.{Place}
 use Rattle.kinds.specs.Meaning.{Meaning}
 use Rattle.channels.specs.declared.row.Row.{Row}
 use Rattle.channels.specs.declared.table.Table.{Table}
-use Rattle.channels.specs.Table.{row_at, with_row}
+use Rattle.channels.specs.Table.{row_at}
 use Rattle.teach.specs.declared.command.Setpoint.{Setpoint}
 use Rattle.teach.specs.declared.command.Setpoint.TheVariants.{Sp1, Sp2}
-use Rattle.objects.specs.Writes.{code_checked, configuration_written, part, setpoints_written, single, then, whole_configuration}
+use Rattle.objects.specs.Writes.{code_checked, configuration_written, part, setpoints_written, single, then}
 use Rattle.sensor_begun.specs.Devices.{put_setpoint, with_stored}
 use Rattle.rules.specs.Calls.{Part, sets_hysteresis, sets_logic, sets_mode, sets_sp1, sets_sp2}
 use Rattle.rules.specs.Rules.{Fixed, configuration_parts, given, on_row, setpoint_asked, setpoint_part, setpoint_parts, with_parts}

@@ -1,5 +1,5 @@
 -- What a sensor holds where the rules hold lists of captured values: their lowest, their highest and their number.
-use Rattle.std.specs.Prelude.{ℕ, Bool, List, [], ◌∷◌, length, Some, None, Option}
+use Rattle.std.specs.Prelude.{List, [], ◌∷◌, length, Some, None, Option}
 use Rattle.kinds.specs.Meaning.{Meaning}
 use Rattle.teach.specs.declared.capture.Captured.{Captured}
 use Rattle.teach.specs.declared.machine.Points.{Points}

@@ -1,12 +1,9 @@
 -- What the calls and answers of the code stand for.
-use Rattle.std.specs.Prelude.{ℕ, List, map, vec_items}
+use Rattle.std.specs.Prelude.{ℕ, List, vec_items}
 use Rattle.channels.specs.declared.reading.Reading.{Reading}
 use Rattle.channels.specs.declared.reading.Reading.TheVariants as readings
-use Rattle.channels.specs.declared.row.Row.{Row}
 use Rattle.days.specs.declared.call.Call.{Call}
 use Rattle.days.specs.declared.call.Call.TheVariants.{Sample, Request, OpenKeypad, WriteKeypad, CloseKeypad, Restart}
-use Rattle.days.specs.declared.call.Channel.{Channel}
-use Rattle.days.specs.declared.call.Entry.{Entry}
 use Rattle.days.specs.declared.call.ReadingOctets.{ReadingOctets}
 use Rattle.days.specs.declared.call.ReadingOctets.TheVariants.{Value, Below, Above, NoData}
 use Rattle.days.specs.declared.call.Reply.{Reply}
