@@ -1,4 +1,5 @@
-// One sensor: set-up, samples and process data, requests, keypad operations, warm restart.
+// One sensor over the crate of objects, begun and used by no program: set-up, samples and process data, requests, keypad
+// operations.
 #![tactic(auto)]
 
 pub mod access;
@@ -6,6 +7,5 @@ pub mod device;
 pub mod keypad;
 pub mod reads;
 pub mod respond;
-pub mod restart;
 pub mod sensor;
 pub mod setup;
