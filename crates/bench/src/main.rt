@@ -10,48 +10,41 @@ use anyhow::anyhow;
 use kinds::float32_t::Float32T;
 use kinds::integer_t16::IntegerT16;
 use kinds::integer_t32::IntegerT32;
-use run::{Tally, run};
-use script::{KindName, Problem};
+use run::{Bench, Tally};
+use script::KindName;
 use sensor::sensor::Sensor;
-use session::{Section, Trouble, read_session};
+use session::{Section, Session};
 use std::io;
 use std::io::Read;
 
-fn run_section(rt: &HostRuntime, section: &Section, tally: &mut Tally) -> io::Result<()> {
+// A blank sensor is made where its kind, and with it its size, is known: in generic code it was tried, and that a sensor of
+// any kind fits into memory stayed open.
+fn run_section(bench: &mut Bench, section: &Section) -> io::Result<()> {
     match section.kind {
-        KindName::Int16 => run(rt, Sensor::<IntegerT16>::blank(), section, tally),
-        KindName::Int32 => run(rt, Sensor::<IntegerT32>::blank(), section, tally),
-        KindName::Float32 => run(rt, Sensor::<Float32T>::blank(), section, tally),
-    }
-}
-
-// Tells on standard error which line could not be read, and what was expected there.
-fn tell(rt: &HostRuntime, trouble: Trouble) -> io::Result<()> {
-    let line = trouble.line;
-    match trouble.problem {
-        Problem::Expected(what) => eprintln!(rt; "line {line}: expected {what}"),
-        Problem::Memory => eprintln!(rt; "line {line}: out of memory"),
+        KindName::Int16 => bench.run(Sensor::<IntegerT16>::blank(), section),
+        KindName::Int32 => bench.run(Sensor::<IntegerT32>::blank(), section),
+        KindName::Float32 => bench.run(Sensor::<Float32T>::blank(), section),
     }
 }
 
 fn main(rt: HostRuntime) -> anyhow::Result<()> {
-    let mut text = String::new(rt.alloc());
+    let heap = rt.alloc();
+    let mut text = String::new(heap);
     rt.stdin().read_to_string(&mut text)?;
-    let session = read_session(rt.alloc(), text.as_str());
-    let mut tally = Tally {
-        accepted: 0,
-        denied: 0,
+    let mut session = Session::new(heap);
+    let read = session.read(heap, text.as_str());
+    let mut bench = Bench {
+        rt: &rt,
+        tally: Tally::default(),
     };
-    for section in session.sections.iter() {
-        run_section(&rt, section, &mut tally)?;
+    for section in &session.sections {
+        run_section(&mut bench, section)?;
     }
-    if let Some(trouble) = session.trouble {
-        tell(&rt, trouble)?;
+    if let Err(trouble) = read {
+        // The line is told on standard error, with what was expected there.
+        eprintln!(rt; "{trouble}")?;
         return Err(anyhow!("the script was not read to its end"));
     }
-    let accepted = tally.accepted;
-    let denied = tally.denied;
-    let calls = accepted.saturating_add(denied);
-    println!(rt; "{calls} calls: {accepted} accepted, {denied} denied")?;
+    println!(rt; "{}", bench.tally)?;
     Ok(())
 }

@@ -1,47 +1,38 @@
-// How octets, layers and denials are printed.
-use faults::{Fault, Layer};
+// How octets and denials are printed.
+use faults::Fault;
 use std::fmt;
 
-// Octets as pairs of hexadecimal digits, with spaces between them.
+// Octets as pairs of hexadecimal digits, with a text between them.
 #[derive(Clone, Copy)]
-pub struct Spaced<'a>(pub &'a [u8]);
+pub struct Octets<'a> {
+    octets: &'a [u8],
+    between: &'static str,
+}
 
-impl fmt::Display for Spaced<'_> {
-    fn fmt<W: fmt::Write>(&self, f: &mut fmt::Formatter<W>) -> fmt::Result {
-        let mut first = true;
-        for x in self.0 {
-            if first {
-                first = false;
-            } else {
-                write!(f, " ")?;
-            }
-            write!(f, "{x:02X}")?;
-        }
-        Ok(())
+pub fn spaced<'a>(octets: &'a [u8]) -> Octets<'a> {
+    Octets {
+        octets,
+        between: " ",
     }
 }
 
-// Octets as pairs of hexadecimal digits, one after the other.
-#[derive(Clone, Copy)]
-pub struct Joined<'a>(pub &'a [u8]);
-
-impl fmt::Display for Joined<'_> {
-    fn fmt<W: fmt::Write>(&self, f: &mut fmt::Formatter<W>) -> fmt::Result {
-        for x in self.0 {
-            write!(f, "{x:02X}")?;
-        }
-        Ok(())
+pub fn joined<'a>(octets: &'a [u8]) -> Octets<'a> {
+    Octets {
+        octets,
+        between: "",
     }
 }
 
-fn word(layer: Layer) -> &'static str {
-    match layer {
-        Layer::Device => "device",
-        Layer::Frame => "frame",
-        Layer::Access => "access",
-        Layer::Value => "value",
-        Layer::Teach => "teach",
-        Layer::Keypad => "keypad",
+impl fmt::Display for Octets<'_> {
+    fn fmt<W: fmt::Write>(&self, f: &mut fmt::Formatter<W>) -> fmt::Result {
+        let Some((first, rest)) = self.octets.split_first() else {
+            return Ok(());
+        };
+        write!(f, "{first:02X}")?;
+        for x in rest {
+            write!(f, "{}{x:02X}", self.between)?;
+        }
+        Ok(())
     }
 }
 
@@ -52,7 +43,7 @@ pub struct Denied(pub Fault);
 impl fmt::Display for Denied {
     fn fmt<W: fmt::Write>(&self, f: &mut fmt::Formatter<W>) -> fmt::Result {
         let number = self.0.denial.number();
-        let layer = word(self.0.denial.layer());
+        let layer = self.0.denial.layer();
         write!(f, "denied {number} {layer}")
     }
 }

@@ -1,6 +1,7 @@
 // A whole script: a section for each sensor, with the steps that it is taken through.
 use super::script::{KindName, Line, Problem, Step, read_line};
 use std::alloc::Global;
+use thiserror::Error;
 
 #[derive(Drop)]
 pub struct Section {
@@ -9,20 +10,25 @@ pub struct Section {
 }
 
 // The line that could not be read, counted from 1.
-#[derive(Clone, Copy)]
+#[derive(Clone, Copy, Debug, Error)]
+#[error("line {line}: {problem}")]
 pub struct Trouble {
-    pub line: usize,
-    pub problem: Problem,
+    line: usize,
+    problem: Problem,
 }
 
 #[derive(Drop)]
 pub struct Session {
     pub sections: Vec<Section>,
-    // What ended the reading, if not the end of the script.
-    pub trouble: Option<Trouble>,
 }
 
 impl Session {
+    pub fn new(heap: Global) -> Session {
+        Session {
+            sections: Vec::new(heap),
+        }
+    }
+
     fn begin(&mut self, heap: Global, kind: KindName) -> Result<(), Problem> {
         self.sections.push(Section {
             kind,
@@ -32,12 +38,10 @@ impl Session {
     }
 
     fn add(&mut self, step: Step) -> Result<(), Problem> {
-        let Some(mut section) = self.sections.pop() else {
-            return Err(Problem::Expected("sensor int16, int32 or float32 as the first line"));
-        };
-        let added = section.steps.push(step);
-        self.sections.push(section)?;
-        added?;
+        let section = self.sections.last_mut().ok_or(Problem::Expected(
+            "sensor int16, int32 or float32 as the first line",
+        ))?;
+        section.steps.push(step)?;
         Ok(())
     }
 
@@ -48,22 +52,13 @@ impl Session {
             Line::Step(step) => self.add(step),
         }
     }
-}
 
-// Reads a script up to its end, or to the first line that cannot be read.
-pub fn read_session(heap: Global, text: &str) -> Session {
-    let mut session = Session {
-        sections: Vec::new(heap),
-        trouble: None,
-    };
-    for (i, line) in text.lines().enumerate() {
-        if let Err(problem) = session.take(heap, line) {
-            session.trouble = Some(Trouble {
-                line: i.saturating_add(1),
-                problem,
-            });
-            return session;
+    // Reads a script up to its end, or to the first line that cannot be read; what stands before that line stays.
+    pub fn read(&mut self, heap: Global, text: &str) -> Result<(), Trouble> {
+        for (line, text) in (1..).zip(text.lines()) {
+            self.take(heap, text)
+                .map_err(|problem| Trouble { line, problem })?;
         }
+        Ok(())
     }
-    session
 }

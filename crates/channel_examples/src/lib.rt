@@ -11,10 +11,7 @@ mod tests {
     use std::test::Fail;
 
     fn value(n: i16) -> Result<IntegerT16, Fail> {
-        let Some(v) = IntegerT16::read(&n.to_be_bytes()) else {
-            return Err(Fail::new("no value"));
-        };
-        Ok(v)
+        Ok(IntegerT16::read(&n.to_be_bytes()).ok_or("no value")?)
     }
 
     fn row(sp1: i16, sp2: i16, mode: u8) -> Result<Row<IntegerT16>, Fail> {

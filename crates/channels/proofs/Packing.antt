@@ -1,24 +1,21 @@
 -- The octet of signals, one signal more at a time.
-use Rattle.std.proofs.Common.{◌≡◌, ℕ, suc, ◌+◌, ◌*◌, ◌^◌, ◌<◌, Bool, true, false, cond, List, [], ◌∷◌, ◌++◌, map, length, take, set, refl, ap, ◌∙◌, subst, arith, length-take}
-use native.Mathlib.Nat.{pow-succ'}
-use lib.ListN.{length-map}
+use Rattle.std.proofs.Common.{◌≡◌, ℕ, ◌+◌, ◌^◌, ◌<◌, Bool, true, false, cond, List, [], ◌∷◌, ◌++◌, map, length, take, set, refl, ap, ◌∙◌, subst, arith, length-take}
+use Rattle.std.proofs.Math.Nat.{pow-succ'}
+use Rattle.std.proofs.lemmas.List.{length-map}
 use Rattle.std.proofs.lemmas.List.{take_more_set, map-append}
 use Rattle.channels.specs.declared.row.Row.{Row}
 use Rattle.channels.specs.Judging.{signal}
 use Rattle.channels.specs.Table.{packed}
 
-pub twice : (n : ℕ) → 2 ^ suc n ≡ 2 * 2 ^ n
-twice n = omega (arith, pow-succ' 2 n)
-
 pub packed_below : (bs : List Bool) → packed bs < 2 ^ length bs
 packed_below [] = omega arith
-packed_below (true ∷ bs) = omega (arith, packed_below bs, twice (length bs))
-packed_below (false ∷ bs) = omega (arith, packed_below bs, twice (length bs))
+packed_below (true ∷ bs) = omega (arith, packed_below bs, pow-succ' 2 (length bs))
+packed_below (false ∷ bs) = omega (arith, packed_below bs, pow-succ' 2 (length bs))
 
 pub packed_more : (bs : List Bool) (b : Bool) → packed (bs ++ b ∷ []) ≡ packed bs + cond b (2 ^ length bs) 0
 packed_more [] true = refl
 packed_more [] false = refl
-packed_more (a ∷ bs) true = omega (arith, packed_more bs true, twice (length bs))
+packed_more (a ∷ bs) true = omega (arith, packed_more bs true, pow-succ' 2 (length bs))
 packed_more (a ∷ bs) false = omega (arith, packed_more bs false)
 
 -- the signals of the first i rows, and of one row more

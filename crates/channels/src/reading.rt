@@ -1,8 +1,10 @@
-// A reading of the sensor: a value, or why there is none.
+// A reading of the sensor: a value, or why there is none. No `Result`: Below and Above are readings too and are shown, and no
+// call fails by them.
 ghost use Rattle.channels.specs.Readings.{block, block_length, counted, shown};
 ghost use Rattle.octets.specs.Buffers.{fitting, placed};
 ghost use Rattle.std.specs.Prelude.{◌≡◌};
 
+use super::range::Range;
 use kinds::kind::Kind;
 use octets::put;
 
@@ -23,22 +25,13 @@ pub fn block_length<K: Kind>() -> usize
 
 impl<K: Kind> Reading<K> {
     // A value under the range counts as Below, one over it as Above.
-    pub fn within(self, low: K, high: K) -> Reading<K>
-        ensures { result ≡ counted K.meaning low high self }
+    pub fn within(self, range: Range<K>) -> Reading<K>
+        ensures { result ≡ counted K.meaning range.low range.high self }
     {
         match self {
-            Reading::Value(v) => {
-                if v.is_under(low) {
-                    Reading::Below
-                } else if high.is_under(v) {
-                    Reading::Above
-                } else {
-                    Reading::Value(v)
-                }
-            }
-            Reading::Below => Reading::Below,
-            Reading::Above => Reading::Above,
-            Reading::NoData => Reading::NoData,
+            Reading::Value(v) if v.is_under(range.low) => Reading::Below,
+            Reading::Value(v) if range.high.is_under(v) => Reading::Above,
+            reading => reading,
         }
     }
 
@@ -55,7 +48,8 @@ impl<K: Kind> Reading<K> {
         }
     }
 
-    // Writes process data: the reading, the scale, the octet of signals. Without room it writes nothing.
+    // Writes process data: the reading, the scale, the octet of signals. Room is tested first, as without room nothing is
+    // written.
     pub fn show(self, scale: u8, signals: u8, out: &mut [u8]) -> Option<usize>
         ensures answer { result ≡ fitting (block K.meaning self scale signals) out.old }
         ensures buffer { out.new ≡ placed (block K.meaning self scale signals) out.old }

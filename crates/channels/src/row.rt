@@ -1,4 +1,5 @@
-// One channel: its settings and its state, as plain codes.
+// One channel: its settings and its state. Logic and mode are plain codes
+// (docs/DECISIONS.md, "Fixed forms").
 ghost use Rattle.channels.specs.Judging.{activates, deactivates, higher_end, judged, lower_end, signal as signal_of};
 ghost use Rattle.std.specs.Prelude.{◌≡◌};
 
@@ -21,21 +22,13 @@ impl<K: Kind> Row<K> {
     fn lower_end(&self) -> K
         ensures { result ≡ lower_end K.meaning self.now }
     {
-        if self.sp1.at_most(self.sp2) {
-            self.sp1
-        } else {
-            self.sp2
-        }
+        self.sp1.lesser(self.sp2)
     }
 
     fn higher_end(&self) -> K
         ensures { result ≡ higher_end K.meaning self.now }
     {
-        if self.sp1.at_most(self.sp2) {
-            self.sp2
-        } else {
-            self.sp1
-        }
+        self.sp1.greater(self.sp2)
     }
 
     fn turns_on(&self, v: K) -> bool

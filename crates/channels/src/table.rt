@@ -1,7 +1,9 @@
-// The channel table: rows of plain codes, of which the first `count` are present.
+// The channel table: rows of plain codes, of which the first `count` are present. Eight rows are kept, as there is no heap,
+// and a count beside them, as the definitions give every count a meaning.
 ghost use Rattle.channels.specs.Table.{fresh_table, has_channel, judged_table, present as present_rows, rested_table, row_at, rows_present, signals_octet, with_row};
 ghost use Rattle.std.specs.Prelude.{◌≡◌, length};
 
+use super::range::Range;
 use super::reading::Reading;
 use super::row::Row;
 use kinds::kind::Kind;
@@ -9,17 +11,18 @@ use kinds::kind::Kind;
 #[derive(Drop)]
 pub struct Table<K> {
     pub count: u8,
+    // That they are eight is said by clauses: as a ghost field it would be a proof in every definition that gives a table.
     pub rows: [Row<K>; 8],
 }
 
 impl<K: Kind> Table<K> {
     // The table after set-up: SP1 and SP2 at the range's ends, logic 0, Single Point, hysteresis 0, inactive.
-    pub fn fresh(count: u8, low: K, high: K) -> Table<K>
-        ensures { result ≡ fresh_table count low high }
+    pub fn fresh(count: u8, range: Range<K>) -> Table<K>
+        ensures { result ≡ fresh_table count range.low range.high }
     {
         let row = Row {
-            sp1: low,
-            sp2: high,
+            sp1: range.low,
+            sp2: range.high,
             hysteresis: 0,
             logic: 0,
             mode: 1,
@@ -36,22 +39,16 @@ impl<K: Kind> Table<K> {
         ensures count { result ≡ rows_present self.now }
         ensures eight { length self.now.rows ≡ 8 }
     {
+        // As a slice the rows are known to be eight.
         let rows = &self.rows[..];
-        let count = self.count as usize;
-        if count < rows.len() {
-            count
-        } else {
-            rows.len()
-        }
+        usize::from(self.count).min(rows.len())
     }
 
     // The rows of the channels that are present, channel 1 first.
     pub fn present(&self) -> &[Row<K>]
         ensures { result.now ≡ present_rows self.now }
     {
-        let n = self.len();
-        let rows = &self.rows[..];
-        &rows[0..n]
+        &self.rows[..self.len()]
     }
 
     // Judges every channel by the reading, and answers the octet of the signals that follow.
@@ -60,9 +57,10 @@ impl<K: Kind> Table<K> {
         ensures signals { result ≡ signals_octet self.new }
     {
         let mut signals = 0;
-        for i in 0..self.len() {
-            self.rows[i].judge(reading);
-            if self.rows[i].signal() {
+        let n = self.len();
+        for (i, row) in self.rows[..n].iter_mut().enumerate() {
+            row.judge(reading);
+            if row.signal() {
                 signals += 1 << i;
             }
         }
@@ -73,8 +71,9 @@ impl<K: Kind> Table<K> {
     pub fn rest(&mut self)
         ensures { self.new ≡ rested_table self.old }
     {
-        for i in 0..self.len() {
-            self.rows[i].active = false;
+        let n = self.len();
+        for row in &mut self.rows[..n] {
+            row.active = false;
         }
     }
 
@@ -84,26 +83,24 @@ impl<K: Kind> Table<K> {
         ensures eight { length self.now.rows ≡ 8 }
     {
         let count = self.len();
-        channel >= 1 && channel as usize <= count
+        channel >= 1 && usize::from(channel) <= count
     }
 
     // The row of a channel, if it is present.
     pub fn row(&self, channel: u8) -> Option<Row<K>>
         ensures { result ≡ row_at self.now channel }
     {
-        if self.has(channel) {
-            Some(self.rows[channel as usize - 1])
-        } else {
-            None
-        }
+        let index = usize::from(channel).checked_sub(1)?;
+        self.present().get(index).copied()
     }
 
-    // Gives a channel another row; one that is not present stays away.
+    // Gives a channel another row; one that is not present stays away. Rows are read and put back, not lent: the clause of a
+    // lent row, by `get_mut` too, would have to say what each write through it leaves.
     pub fn replace(&mut self, channel: u8, row: Row<K>)
         ensures { self.new ≡ with_row self.old channel row }
     {
         if self.has(channel) {
-            self.rows[channel as usize - 1] = row;
+            self.rows[usize::from(channel) - 1] = row;
         }
     }
 }

@@ -10,7 +10,7 @@ use Rattle.channels.specs.declared.table.Table.{Table}
 use Rattle.channels.specs.Table.{has_channel}
 use Rattle.objects.specs.declared.object.Object.{Object}
 use Rattle.objects.specs.declared.object.Object.TheVariants.{SystemCommand, TeachSelect, TeachResult, Setpoints, Configuration}
-use Rattle.objects.specs.Objects.{access_checked, allows, channel_of, direction_checked, index_checked, object_at, object_checked, parts, place_of, write_checked, written_length}
+use Rattle.objects.specs.Objects.{access_checked, allows, channel_object, channel_of, direction_checked, index_checked, object_at, object_checked, parts, place_of, write_checked, written_length}
 use Rattle.rules.proofs.Origins.{err_ok, ok_same, past_test}
 
 -- the channel of setpoints or of a configuration is there
@@ -31,16 +31,23 @@ same_some : (x y : Object) → ◌≡◌ {A = Option Object} (Some x) (Some y) �
 same_some x y p = cc
 
 module _ {V : Type 0} (m : Meaning V) (t : Table V) where
-  found_by : (a b c present even : Bool) (k : ℕ) (o : Object) → (present ≡ true → has_channel t k ≡ true) → cond a (Some SystemCommand) (cond b (Some TeachSelect) (cond c (Some TeachResult) (cond present (Some (cond even (Setpoints k) (Configuration k))) None))) ≡ Some o → There t o
-  found_by true b c present even k o h e = subst (There t) (same_some SystemCommand o e) tt
-  found_by false true c present even k o h e = subst (There t) (same_some TeachSelect o e) tt
-  found_by false false true present even k o h e = subst (There t) (same_some TeachResult o e) tt
-  found_by false false false true true k o h e = subst (There t) (same_some (Setpoints k) o e) (h refl)
-  found_by false false false true false k o h e = subst (There t) (same_some (Configuration k) o e) (h refl)
-  found_by false false false false even k o h e = absurd (let z : ◌≡◌ {A = ℕ} 0 1 = cc in omega arith)
+  present_by : (present even : Bool) (k : ℕ) (o : Object) → (present ≡ true → has_channel t k ≡ true) → cond present (Some (cond even (Setpoints k) (Configuration k))) None ≡ Some o → There t o
+  present_by true true k o h e = subst (There t) (same_some (Setpoints k) o e) (h refl)
+  present_by true false k o h e = subst (There t) (same_some (Configuration k) o e) (h refl)
+  present_by false even k o h e = absurd (let z : ◌≡◌ {A = ℕ} 0 1 = cc in omega arith)
+
+  channel_by : (k : Option ℕ) (i : ℕ) (o : Object) → channel_object t i k ≡ Some o → There t o
+  channel_by None i o e = absurd (let z : ◌≡◌ {A = ℕ} 0 1 = cc in omega arith)
+  channel_by (Some k) i o e = present_by (has_channel t k) (eqb (i % 2) 0) k o (λ h. h) e
+
+  found_by : (a b c : Bool) (x : Option Object) (o : Object) → (x ≡ Some o → There t o) → cond a (Some SystemCommand) (cond b (Some TeachSelect) (cond c (Some TeachResult) x)) ≡ Some o → There t o
+  found_by true b c x o h e = subst (There t) (same_some SystemCommand o e) tt
+  found_by false true c x o h e = subst (There t) (same_some TeachSelect o e) tt
+  found_by false false true x o h e = subst (There t) (same_some TeachResult o e) tt
+  found_by false false false x o h e = h e
 
   found : (i : ℕ) (o : Object) → object_at t i ≡ Some o → There t o
-  found i o e = found_by (eqb i 2) (eqb i 58) (eqb i 59) (has_channel t (channel_of i)) (eqb (i % 2) 0) (channel_of i) o (λ h. h) e
+  found i o e = found_by (eqb i 2) (eqb i 58) (eqb i 59) (channel_object t i (channel_of i)) o (channel_by (channel_of i) i o) e
 
   write_granted : (keypad : Bool) (a : Asked) (o p : Object) → write_checked m keypad a o ≡ Ok p → (o ≡ p) × (length a.octets ≡ written_length m.width o a.subindex)
   write_granted keypad a o p e =

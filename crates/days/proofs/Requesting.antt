@@ -21,11 +21,11 @@ use Rattle.objects.specs.declared.object.Object.{Object}
 use Rattle.objects.specs.declared.object.Object.TheVariants.{SystemCommand, TeachSelect, TeachResult, Setpoints, Configuration}
 use Rattle.objects.specs.Objects.{access_checked, place_of}
 use Rattle.objects.specs.Writes.{configuration_written, setpoints_written, then}
-use Rattle.sensor_begun.specs.declared.device.Device.{Device}
-use Rattle.sensor_begun.specs.Access as access
-use Rattle.sensor_begun.specs.Devices as devices
-use Rattle.sensor_begun.specs.Requests as requests
-use Rattle.sensor_begun.specs.Requests.{Answered}
+use Rattle.sensor.specs.declared.device.Device.{Device}
+use Rattle.sensor.specs.Access as access
+use Rattle.sensor.specs.Devices as devices
+use Rattle.sensor.specs.Requests as requests
+use Rattle.sensor.specs.Requests.{Answered}
 use Rattle.rules.specs.Calls.{Act, Part, request, to_command, to_select, to_write}
 use Rattle.rules.specs.Lessons.{Goes}
 use Rattle.rules.specs.Rules.{Fixed, Held, checked, commanded, configuration_parts, done, negative, object_asked, octets_of, on_row, performed, request_granted, response_of, row_in, setpoint_parts, with_parts, write_asked}

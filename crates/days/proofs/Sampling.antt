@@ -11,9 +11,9 @@ use Rattle.teach.specs.declared.machine.Verdict.TheVariants.{Open, Fails, Stores
 use Rattle.teach.specs.Machine.{Moved}
 use Rattle.teach.specs.Teaching as teaching
 use Rattle.teach.specs.Teaching.{store_of}
-use Rattle.sensor_begun.specs.declared.device.Device.{Device}
-use Rattle.sensor_begun.specs.Devices as devices
-use Rattle.sensor_begun.specs.Samples.{fed_device, sampled}
+use Rattle.sensor.specs.declared.device.Device.{Device}
+use Rattle.sensor.specs.Devices as devices
+use Rattle.sensor.specs.Samples.{fed_device, sampled}
 use Rattle.rules.specs.Calls.{samples}
 use Rattle.rules.specs.Lessons.{fed}
 use Rattle.rules.specs.Rules.{Fixed, Held, done, heard, stored, taken}

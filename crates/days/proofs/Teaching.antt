@@ -1,7 +1,7 @@
 -- The machine with lowest, highest and count does what the rules say of the lists of captured values.
 use Rattle.std.proofs.Common.{◌≡◌, ◌+◌, Bool, true, false, cond, List, [], ◌∷◌, length, Some, None, Option, refl, ap, ◌∙◌, add-one}
 use Rattle.std.specs.Option.{option_map}
-use Rattle.kinds.specs.Meaning.{Meaning, greater, lesser}
+use Rattle.kinds.specs.Meaning.{Meaning}
 use Rattle.teach.specs.declared.command.Command.{Command}
 use Rattle.teach.specs.declared.command.Setpoint.{Setpoint}
 use Rattle.teach.specs.declared.command.Step.{Step}
@@ -10,16 +10,17 @@ use Rattle.teach.specs.declared.command.Teachpoint.{Teachpoint}
 use Rattle.teach.specs.declared.command.Teachpoint.TheVariants.{Tp1, Tp2}
 use Rattle.teach.specs.declared.machine.Change.TheVariants.{Keep, Set}
 use Rattle.teach.specs.declared.machine.Flags.{Flags}
-use Rattle.teach.specs.declared.machine.Points.{Points}
+use Rattle.teach.specs.declared.machine.Teachpoints.{Teachpoints}
 use Rattle.teach.specs.declared.terms.Terms.{Terms}
 use Rattle.teach.specs.Captures.{taken}
 use Rattle.teach.specs.Evaluation.{evaluate_dynamic, evaluate_single}
 use Rattle.teach.specs.Flags.{both_set, flag_bits}
 use Rattle.teach.specs.Machine as machine
-use Rattle.teach.specs.Machine.{same_setpoint, with_point}
+use Rattle.teach.specs.Machine.{same_setpoint}
+use Rattle.teach.specs.Teachpoints.{with_teachpoint}
 use Rattle.teach.specs.Teaching as teaching
 use Rattle.rules.specs.Lessons.{Lesson, Stage, Values, idle, busy_single, busy_two, wait_two, dyn_start, wait_dyn, ends, evaluated, fed, full, goes, highest, is_idle, lowest, row, teach_result, teach_state, values}
-use Rattle.days.specs.Devices.{band, machine_of, moved_of, point_of, points_of, summary, teach_of}
+use Rattle.days.specs.Devices.{band, machine_of, moved_of, point_of, points_of, span_of_all, summary, teach_of}
 
 through : {A B : Type 0} (f : A → B) (b : Bool) (x y : A) → cond b (f x) (f y) ≡ f (cond b x y)
 through f true x y = refl
@@ -33,9 +34,9 @@ module _ {V : Type 0} (m : Meaning V) (t : Terms) where
   -- one value more
   taken_is : (vs : List V) (v : V) → taken m (summary m vs) v ≡ band m v vs
   taken_is [] v = refl
-  taken_is (w ∷ ws) v = λ i. record { lowest = lesser m v (lowest m w ws); highest = greater m v (highest m w ws); count = add-one (length (w ∷ ws)) i }
+  taken_is (w ∷ ws) v = λ i. record { span = span_of_all m v (w ∷ ws); count = add-one (length (w ∷ ws)) i }
 
-  points_with : (p : Points (Values V)) (tp : Teachpoint) (v : V) (vs : List V) → with_point (points_of m p) tp (m.middle (lowest m v vs) (highest m v vs)) ≡ points_of m (with_point p tp (values v vs))
+  points_with : (p : Teachpoints (Option (Values V))) (tp : Teachpoint) (v : V) (vs : List V) → with_teachpoint (points_of m p) tp (Some (m.middle (lowest m v vs) (highest m v vs))) ≡ points_of m (with_teachpoint p tp (Some (values v vs)))
   points_with p Tp1 v vs = refl
   points_with p Tp2 v vs = refl
 
@@ -43,9 +44,9 @@ module _ {V : Type 0} (m : Meaning V) (t : Terms) where
   single_is sp v vs =
       through (moved_of m) (full m t (v ∷ vs)) (ends (evaluate_single m t sp (lowest m v vs) (highest m v vs))) (goes (busy_single sp (v ∷ vs)) Keep)
 
-  two_is : (sp : Setpoint) (tp : Teachpoint) (p : Points (Values V)) (v : V) (vs : List V) → machine.two_fed m t sp tp (points_of m p) (band m v vs) ≡ moved_of m (fed m t (busy_two sp tp vs p) v)
-  two_is sp Tp1 p v vs = through (moved_of m) (full m t (v ∷ vs)) (goes (wait_two sp (with_point p Tp1 (values v vs))) (Set sp Tp1)) (goes (busy_two sp Tp1 (v ∷ vs) p) Keep)
-  two_is sp Tp2 p v vs = through (moved_of m) (full m t (v ∷ vs)) (goes (wait_two sp (with_point p Tp2 (values v vs))) (Set sp Tp2)) (goes (busy_two sp Tp2 (v ∷ vs) p) Keep)
+  two_is : (sp : Setpoint) (tp : Teachpoint) (p : Teachpoints (Option (Values V))) (v : V) (vs : List V) → machine.two_fed m t sp tp (points_of m p) (band m v vs) ≡ moved_of m (fed m t (busy_two sp tp vs p) v)
+  two_is sp Tp1 p v vs = through (moved_of m) (full m t (v ∷ vs)) (goes (wait_two sp (with_teachpoint p Tp1 (Some (values v vs)))) (Set sp Tp1)) (goes (busy_two sp Tp1 (v ∷ vs) p) Keep)
+  two_is sp Tp2 p v vs = through (moved_of m) (full m t (v ∷ vs)) (goes (wait_two sp (with_teachpoint p Tp2 (Some (values v vs)))) (Set sp Tp2)) (goes (busy_two sp Tp2 (v ∷ vs) p) Keep)
 
   -- a value that is fed
   pub fed_is : (s : Stage V) (v : V) → machine.fed m t (machine_of m s) v ≡ moved_of m (fed m t s v)

@@ -9,7 +9,7 @@ use Rattle.channels.specs.Table.{row_at}
 use Rattle.teach.specs.declared.command.Setpoint.{Setpoint}
 use Rattle.teach.specs.declared.command.Setpoint.TheVariants.{Sp1, Sp2}
 use Rattle.objects.specs.Writes.{code_checked, configuration_written, part, setpoints_written, single, then}
-use Rattle.sensor_begun.specs.Devices.{put_setpoint, with_stored}
+use Rattle.sensor.specs.Devices.{put_setpoint, with_stored}
 use Rattle.rules.specs.Calls.{Part, sets_hysteresis, sets_logic, sets_mode, sets_sp1, sets_sp2}
 use Rattle.rules.specs.Rules.{Fixed, configuration_parts, given, on_row, setpoint_asked, setpoint_part, setpoint_parts, with_parts}
 

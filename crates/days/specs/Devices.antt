@@ -2,20 +2,25 @@
 use Rattle.std.specs.Prelude.{List, [], ◌∷◌, length, Some, None, Option}
 use Rattle.kinds.specs.Meaning.{Meaning}
 use Rattle.teach.specs.declared.capture.Captured.{Captured}
-use Rattle.teach.specs.declared.machine.Points.{Points}
+use Rattle.teach.specs.declared.capture.Span.{Span}
+use Rattle.teach.specs.declared.machine.Teachpoints.{Teachpoints}
 use Rattle.teach.specs.declared.machine.State.{State}
 use Rattle.teach.specs.declared.machine.State.TheVariants.{Idle, BusySingle, BusyTwo, WaitTwo, DynStart, WaitDyn}
 use Rattle.teach.specs.declared.teaching.Teach.{Teach}
 use Rattle.teach.specs.Machine.{Moved}
-use Rattle.sensor_begun.specs.declared.device.Device.{Device}
-use Rattle.sensor_begun.specs.declared.sensor.Sensor.{Sensor}
+use Rattle.sensor.specs.declared.device.Device.{Device}
+use Rattle.sensor.specs.declared.sensor.Sensor.{Sensor}
 use Rattle.rules.specs.Lessons.{Goes, Lesson, Stage, Values, idle, busy_single, busy_two, wait_two, dyn_start, wait_dyn, highest, lowest, teachpoint}
 use Rattle.rules.specs.Rules.{Fixed, Held}
 
 module _ {V : Type 0} (m : Meaning V) where
-  -- the lowest, the highest and the number of v and vs
+  -- the lowest and the highest of v and vs
+  abbrev pub span_of_all : V → List V → Span V
+  span_of_all v vs = record { lowest = lowest m v vs; highest = highest m v vs }
+
+  -- and their number
   abbrev pub band : V → List V → Captured V
-  band v vs = record { lowest = lowest m v vs; highest = highest m v vs; count = length (v ∷ vs) }
+  band v vs = record { span = span_of_all v vs; count = length (v ∷ vs) }
 
   abbrev pub summary : List V → Option (Captured V)
   summary [] = None
@@ -25,7 +30,7 @@ module _ {V : Type 0} (m : Meaning V) where
   point_of None = None
   point_of (Some k) = Some (teachpoint m k)
 
-  abbrev pub points_of : Points (Values V) → Points V
+  abbrev pub points_of : Teachpoints (Option (Values V)) → Teachpoints (Option V)
   points_of p = record { tp1 = point_of p.tp1; tp2 = point_of p.tp2 }
 
   abbrev pub machine_of : Stage V → State V
@@ -34,7 +39,7 @@ module _ {V : Type 0} (m : Meaning V) where
   machine_of (busy_two sp tp vs p) = BusyTwo sp tp (summary vs) (points_of p)
   machine_of (wait_two sp p) = WaitTwo sp (points_of p)
   machine_of (dyn_start sp) = DynStart sp
-  machine_of (wait_dyn sp k) = WaitDyn sp (lowest m k.latest k.earlier) (highest m k.latest k.earlier)
+  machine_of (wait_dyn sp k) = WaitDyn sp (span_of_all k.latest k.earlier)
 
   abbrev pub moved_of : Goes V → Moved V
   moved_of g = record { state = machine_of g.stage; effect = record { change = g.change; verdict = g.verdict } }
@@ -45,8 +50,7 @@ module _ {V : Type 0} (m : Meaning V) where
   abbrev pub device_of : Fixed V → Held V → Device V
   device_of P h = record {
     serial = P.serial;
-    low = P.low;
-    high = P.high;
+    range = record { low = P.low; high = P.high };
     scale = P.scale;
     keypad = h.keypad;
     selected = h.selected;

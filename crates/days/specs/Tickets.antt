@@ -1,9 +1,9 @@
 -- The ticket of an open keypad operation.
 use Rattle.std.specs.Prelude.{cond, Some, None, Option}
-use Rattle.sensor_begun.specs.declared.device.Device.{Device}
-use Rattle.sensor_begun.specs.declared.keypad.Ticket.{Ticket}
-use Rattle.sensor_begun.specs.declared.sensor.Sensor.{Sensor}
-use Rattle.sensor_begun.specs.Keypad.{ticket_of}
+use Rattle.sensor.specs.declared.device.Device.{Device}
+use Rattle.sensor.specs.declared.keypad.Ticket.{Ticket}
+use Rattle.sensor.specs.declared.sensor.Sensor.{Sensor}
+use Rattle.sensor.specs.Keypad.{ticket_of}
 
 module _ {V : Type 0} where
   abbrev due_from : Option (Device V) → Option Ticket

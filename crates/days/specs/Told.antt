@@ -1,21 +1,20 @@
 -- What the calls and answers of the code stand for.
 use Rattle.std.specs.Prelude.{ℕ, List, vec_items}
+use Rattle.std.specs.Global.{Vec}
 use Rattle.channels.specs.declared.reading.Reading.{Reading}
-use Rattle.channels.specs.declared.reading.Reading.TheVariants as readings
+use Rattle.channels.specs.declared.reading.Reading.TheVariants.{Value, Below, Above, NoData}
 use Rattle.days.specs.declared.call.Call.{Call}
 use Rattle.days.specs.declared.call.Call.TheVariants.{Sample, Request, OpenKeypad, WriteKeypad, CloseKeypad, Restart}
-use Rattle.days.specs.declared.call.ReadingOctets.{ReadingOctets}
-use Rattle.days.specs.declared.call.ReadingOctets.TheVariants.{Value, Below, Above, NoData}
 use Rattle.days.specs.declared.call.Reply.{Reply}
 use Rattle.days.specs.declared.call.Reply.TheVariants.{Accepted, Ticket, Denied}
 use Rattle.rules.specs.Calls as rules
 
 -- the octets of a reading
-abbrev pub octets_of : ReadingOctets → Reading (List ℕ)
-octets_of (Value octets) = readings.Value (vec_items octets)
-octets_of Below = readings.Below
-octets_of Above = readings.Above
-octets_of NoData = readings.NoData
+abbrev pub octets_of : Reading (Vec ℕ) → Reading (List ℕ)
+octets_of (Value octets) = Value (vec_items octets)
+octets_of Below = Below
+octets_of Above = Above
+octets_of NoData = NoData
 
 -- a call
 abbrev pub called : Call → rules.Call

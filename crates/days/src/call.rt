@@ -1,20 +1,12 @@
 // The calls of a day, and what they answer.
+use channels::reading::Reading;
 use channels::row::Row;
 use faults::Fault;
-
-// A reading, with the octets of a value.
-#[derive(Drop)]
-pub enum ReadingOctets {
-    Value(Vec<u8>),
-    Below,
-    Above,
-    NoData,
-}
 
 #[derive(Drop)]
 pub enum Call {
     // A reading, and the length of the buffer.
-    Sample(ReadingOctets, u16),
+    Sample(Reading<Vec<u8>>, u16),
     // A frame, and the length of the response buffer.
     Request(Vec<u8>, u16),
     OpenKeypad,

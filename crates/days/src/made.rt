@@ -1,13 +1,13 @@
 // Samples and requests, each with a buffer of its own.
 ghost use Rattle.days.specs.Told.{told};
 ghost use Rattle.rules.specs.Calls.{accepted, denied};
-ghost use Rattle.sensor_begun.specs.Samples.{sample_after, sample_reply};
+ghost use Rattle.sensor.specs.Samples.{sample_after, sample_reply};
 ghost use Rattle.std.specs.Prelude.{◌≡◌};
 
 use super::call::Reply;
 use channels::reading::Reading;
 use kinds::kind::Kind;
-use sensor_begun::sensor::Sensor;
+use sensor::sensor::Sensor;
 
 pub(crate) fn sample<K: Kind>(
     sensor: &mut Sensor<K>,
@@ -22,7 +22,7 @@ pub(crate) fn sample<K: Kind>(
             Reply::Accepted(out)
         }
         Err(fault) => {
-            out.truncate(0);
+            out.clear();
             Reply::Denied(fault, out)
         }
     }

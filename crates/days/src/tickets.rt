@@ -1,18 +1,18 @@
 // Tickets of any serial number: from a sensor of their own, set up with that number.
-ghost use Rattle.sensor_begun.specs.Keypad.{close_reply, ticket_of};
+ghost use Rattle.sensor.specs.Keypad.{close_reply, ticket_of};
 ghost use Rattle.std.specs.Prelude.{◌≡◌, Some, None, Ok};
 
 use kinds::kind::Kind;
-use sensor_begun::keypad::Ticket;
-use sensor_begun::sensor::Sensor;
-use sensor_begun::setup::Setup;
+use sensor::keypad::Ticket;
+use sensor::sensor::Sensor;
+use sensor::setup::Setup;
 
 // Puts a ticket where there is none.
 pub(crate) fn keep(place: &mut Option<Ticket>, ticket: Ticket)
     requires { place.old ≡ None }
     ensures { place.new ≡ Some ticket }
 {
-    match std::mem::replace(place, Some(ticket)) {
+    match place.replace(ticket) {
         None => {}
         Some(_ticket) => unreachable(),
     }

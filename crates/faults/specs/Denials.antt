@@ -1,5 +1,5 @@
 -- The denials: number, layer and, where a negative response tells of one, its ErrorCode.
-use Rattle.std.specs.Prelude.{ℕ, Some, None, Option}
+use Rattle.std.specs.Prelude.{ℕ, List, Some, None, Option, codes}
 use Rattle.faults.specs.declared.Denial.{Denial}
 use Rattle.faults.specs.declared.Denial.TheVariants.{SetupUnderKeypad, ChannelCount, Range, CaptureLength, Blank, BufferTooShort, ResponseBuffer, FrameLength, CheckOctet, Service, NoIndex, NoSubindex, WrongDirection, DataTooLong, DataTooShort, WriteUnderKeypad, NoValue, AboveRange, BelowRange, UnknownCommand, NotInState, AlreadyOpen, TeachRunning, OtherSerial, NotOpen, NoSetpoint, NoFrame}
 use Rattle.faults.specs.declared.Layer.{Layer}
@@ -48,6 +48,15 @@ entry OtherSerial = silent 24 Keypad
 entry NotOpen = silent 25 Keypad
 entry NoSetpoint = silent 26 Keypad
 entry NoFrame = silent 27 Frame
+
+-- the word that a layer is printed as
+abbrev pub layer_word : Layer → List ℕ
+layer_word Device = codes "device"
+layer_word Frame = codes "frame"
+layer_word Access = codes "access"
+layer_word Value = codes "value"
+layer_word Teach = codes "teach"
+layer_word Keypad = codes "keypad"
 
 -- the fault of a denial that concerns no object
 abbrev pub fault : Denial → Fault

@@ -1,66 +1,68 @@
 // The denials of the core, and the fault that tells of one.
 #![tactic(auto)]
 
-ghost use Rattle.faults.specs.Denials.{entry, fault, fault_at};
-ghost use Rattle.std.specs.Prelude.{◌≡◌};
+ghost use Rattle.faults.specs.Denials.{entry, fault, fault_at, layer_word};
+ghost use Rattle.std.specs.Prelude.{◌≡◌, Some};
 
-// Why a call is denied: a case for each number, in their order from 1.
+use std::fmt;
+
+// Why a call is denied, by its number.
 #[derive(Clone, Copy, PartialEq, Eq, Debug)]
 pub enum Denial {
-    // 1: a set-up while a keypad operation is open.
-    SetupUnderKeypad,
-    // 2: the channel count is not 1 to 8.
-    ChannelCount,
-    // 3: the range's low end is not below its high end, or an end is past the kind's limits.
-    Range,
-    // 4: the capture length is not 1 to 64.
-    CaptureLength,
-    // 5: the sensor is blank.
-    Blank,
-    // 6: the buffer is too short.
-    BufferTooShort,
-    // 7: the response buffer has under 16 octets.
-    ResponseBuffer,
-    // 8: the length is not as laid out, or not the frame's.
-    FrameLength,
-    // 9: the exclusive-or of the frame's octets is not 0.
-    CheckOctet,
-    // 10: another service, or fields that do not fit it.
-    Service,
-    // 11: no such index.
-    NoIndex,
-    // 12: no such subindex.
-    NoSubindex,
-    // 13: the object is not read, or not written.
-    WrongDirection,
-    // 14: the data is too long.
-    DataTooLong,
-    // 15: the data is too short.
-    DataTooShort,
-    // 16: a write from the bus while a keypad operation is open.
-    WriteUnderKeypad,
-    // 17: octets that are no value of the kind, or a code out of its table.
-    NoValue,
-    // 18: a setpoint above the range.
-    AboveRange,
-    // 19: a setpoint below the range.
-    BelowRange,
-    // 20: an unknown command.
-    UnknownCommand,
-    // 21: a teach command that is not in the state's row.
-    NotInState,
-    // 22: a keypad operation is open already.
-    AlreadyOpen,
-    // 23: the teach is not idle.
-    TeachRunning,
-    // 24: the ticket bears another serial number.
-    OtherSerial,
-    // 25: no keypad operation is open.
-    NotOpen,
-    // 26: no such channel or setpoint.
-    NoSetpoint,
-    // 27: no frame holds the request.
-    NoFrame,
+    // A set-up while a keypad operation is open.
+    SetupUnderKeypad = 1,
+    // The channel count is not 1 to 8.
+    ChannelCount = 2,
+    // The range's low end is not below its high end, or an end is past the kind's limits.
+    Range = 3,
+    // The capture length is not 1 to 64.
+    CaptureLength = 4,
+    // The sensor is blank.
+    Blank = 5,
+    // The buffer is too short.
+    BufferTooShort = 6,
+    // The response buffer has under 16 octets.
+    ResponseBuffer = 7,
+    // The length is not as laid out, or not the frame's.
+    FrameLength = 8,
+    // The exclusive-or of the frame's octets is not 0.
+    CheckOctet = 9,
+    // Another service, or fields that do not fit it.
+    Service = 10,
+    // No such index.
+    NoIndex = 11,
+    // No such subindex.
+    NoSubindex = 12,
+    // The object is not read, or not written.
+    WrongDirection = 13,
+    // The data is too long.
+    DataTooLong = 14,
+    // The data is too short.
+    DataTooShort = 15,
+    // A write from the bus while a keypad operation is open.
+    WriteUnderKeypad = 16,
+    // Octets that are no value of the kind, or a code out of its table.
+    NoValue = 17,
+    // A setpoint above the range.
+    AboveRange = 18,
+    // A setpoint below the range.
+    BelowRange = 19,
+    // An unknown command.
+    UnknownCommand = 20,
+    // A teach command that is not in the state's row.
+    NotInState = 21,
+    // A keypad operation is open already.
+    AlreadyOpen = 22,
+    // The teach is not idle.
+    TeachRunning = 23,
+    // The ticket bears another serial number.
+    OtherSerial = 24,
+    // No keypad operation is open.
+    NotOpen = 25,
+    // No such channel or setpoint.
+    NoSetpoint = 26,
+    // No frame holds the request.
+    NoFrame = 27,
 }
 
 // The part of the core that denies.
@@ -74,39 +76,27 @@ pub enum Layer {
     Keypad,
 }
 
+// A layer by its word.
+impl fmt::Display for Layer {
+    ghost output = { λ layer. Some (layer_word layer) };
+
+    fn fmt<W: fmt::Write>(&self, f: &mut fmt::Formatter<W>) -> fmt::Result {
+        f.write_str(match self {
+            Layer::Device => "device",
+            Layer::Frame => "frame",
+            Layer::Access => "access",
+            Layer::Value => "value",
+            Layer::Teach => "teach",
+            Layer::Keypad => "keypad",
+        })
+    }
+}
+
 impl Denial {
     pub const fn number(self) -> u8
         ensures { result ≡ (entry self).number }
     {
-        match self {
-            Denial::SetupUnderKeypad => 1,
-            Denial::ChannelCount => 2,
-            Denial::Range => 3,
-            Denial::CaptureLength => 4,
-            Denial::Blank => 5,
-            Denial::BufferTooShort => 6,
-            Denial::ResponseBuffer => 7,
-            Denial::FrameLength => 8,
-            Denial::CheckOctet => 9,
-            Denial::Service => 10,
-            Denial::NoIndex => 11,
-            Denial::NoSubindex => 12,
-            Denial::WrongDirection => 13,
-            Denial::DataTooLong => 14,
-            Denial::DataTooShort => 15,
-            Denial::WriteUnderKeypad => 16,
-            Denial::NoValue => 17,
-            Denial::AboveRange => 18,
-            Denial::BelowRange => 19,
-            Denial::UnknownCommand => 20,
-            Denial::NotInState => 21,
-            Denial::AlreadyOpen => 22,
-            Denial::TeachRunning => 23,
-            Denial::OtherSerial => 24,
-            Denial::NotOpen => 25,
-            Denial::NoSetpoint => 26,
-            Denial::NoFrame => 27,
-        }
+        self as u8
     }
 
     pub const fn layer(self) -> Layer
@@ -168,7 +158,8 @@ pub struct Place {
     pub subindex: u8,
 }
 
-// A denial and the object that it concerns: index and subindex are 0 where no object is concerned.
+// A denial and the object that it concerns: index and subindex are 0 where no object is concerned (docs/DECISIONS.md, "Fixed
+// forms").
 #[derive(Clone, Copy, PartialEq, Eq, Debug)]
 pub struct Fault {
     pub denial: Denial,
@@ -197,5 +188,13 @@ impl Fault {
             index: place.index,
             subindex: place.subindex,
         }
+    }
+}
+
+impl From<Denial> for Fault {
+    ghost from_gives = { λ denial result. result ≡ fault denial };
+
+    fn from(denial: Denial) -> Fault {
+        Fault::of(denial)
     }
 }

@@ -1,35 +1,32 @@
 -- Octets decode as a request just where they are laid out as a frame of it.
-use Rattle.std.proofs.Common.{◌≡◌, ℕ, zero, suc, ◌+◌, ◌-◌, ◌*◌, ◌/◌, ◌%◌, ◌<◌, ◌≤◌, Bool, true, false, cond, not, ◌&&◌, eqb, leb, List, [], ◌∷◌, ◌++◌, length, get_or, take, Some, None, Ok, Err, Option, Result, sym, refl, ap, ◌∙◌, subst, ⊎_elim, arith}
+use Rattle.std.proofs.Common.{◌≡◌, ℕ, zero, suc, ◌+◌, ◌-◌, ◌*◌, ◌/◌, ◌%◌, ◌<◌, ◌≤◌, Bool, true, false, cond, not, eqb, List, [], ◌∷◌, ◌++◌, length, get_or, take, Some, None, Ok, Err, Option, Result, sym, refl, ap, ◌∙◌, subst, arith}
 use Rattle.std.proofs.lemmas.List.{append_assoc, length_push}
-use Rattle.std.proofs.lemmas.Bool.{cond-true, cond-false, eq-eqb, ne_eqb, eqb-true, eqb-false, leb-true, cases_Bool, and_parts, and_from, not-true, not-false, not_from_false}
+use Rattle.std.proofs.lemmas.Option.{none-some, same_Some}
+use Rattle.std.specs.Option.{option_eq}
+use Rattle.std.proofs.lemmas.Bool.{cond-true, eqb-true, not-false}
 use Rattle.faults.specs.declared.Fault.{Fault}
-use Rattle.faults.specs.declared.Denial.TheVariants.{FrameLength, CheckOctet, Service}
+use Rattle.faults.specs.declared.Denial.TheVariants.{FrameLength, CheckOctet}
 use Rattle.faults.specs.Denials.{fault}
 use Rattle.isdu.specs.declared.Direction.{Direction}
-use Rattle.isdu.specs.declared.Direction.TheVariants.{Read, Write}
 use Rattle.isdu.specs.declared.services.Addressing.{Addressing}
 use Rattle.isdu.specs.declared.services.Addressing.TheVariants.{Index8, Index8Sub, Index16Sub}
 use Rattle.isdu.specs.Requests.{Asked}
 use Rattle.isdu.specs.CheckOctet.{exclusive_or, before_check}
-use Rattle.isdu.specs.Services.{service_digit, service_of}
+use Rattle.isdu.specs.declared.services.Service.{Service}
+use Rattle.isdu.specs.Services.{service, service_digit, service_of}
 use Rattle.isdu.specs.Addresses.{address_octets, address_of}
 use Rattle.isdu.specs.Decoding.{second_length, has_second, stated_length, past_length, fits_service, request_with, request_of, decoded}
 use Rattle.isdu.specs.Composing.{heading}
 use Rattle.isdu.specs.Layout.{Lengths, Addresses, Carries, Laid, Judged}
 use Rattle.isdu.specs.Promises.{Octets}
-use Rattle.isdu.proofs.Answered.{no_answer, passed, met, same_answer}
+use Rattle.isdu.proofs.Answered.{no_answer, passed, same_answer}
 use Rattle.isdu.proofs.Balance.{before_check_length, split_last}
 use Rattle.isdu.proofs.Frames.{decoded_short, decoded_long}
 
 -- from the layout to the request
 
-service_back : (d : Direction) (a : Addressing) → service_of (service_digit d a) ≡ Some (d, a)
-service_back Write Index8 = refl
-service_back Write Index8Sub = refl
-service_back Write Index16Sub = refl
-service_back Read Index8 = refl
-service_back Read Index8Sub = refl
-service_back Read Index16Sub = refl
+service_back : (d : Direction) (a : Addressing) → service_of (service_digit d a) ≡ Some (service d a)
+service_back d a = grind arith
 
 address_back : (a : Addressing) (i s : ℕ) (ys : List ℕ) → Addresses a i s → address_of a (address_octets a i s ++ ys) ≡ Some (i, s, ys)
 address_back Index8 i s ys h =
@@ -38,8 +35,7 @@ address_back Index8Sub i s ys h = let low : i % 256 ≡ i = omega arith in ap (�
 address_back Index16Sub i s ys h = let both : i / 256 % 256 * 256 + i % 256 ≡ i = omega arith in ap (λ j. Some (j, s, ys)) both
 
 fits_carried : (d : Direction) (second : Bool) (ys : List ℕ) → Carries d second ys → fits_service d second ys ≡ true
-fits_carried Write second ys h = not_from_false _ (ne_eqb (length ys) 0 (λ k. omega arith))
-fits_carried Read second ys h = and_from _ _ (eq-eqb (length ys) 0 h.0) (ap not h.1)
+fits_carried d second ys h = grind arith
 
 decoded_heading : (second : Bool) (s n c : ℕ) (bs : List ℕ) → Lengths second n → n ≡ length (heading second s n ++ (bs ++ c ∷ []))
     → exclusive_or (heading second s n ++ (bs ++ c ∷ [])) ≡ 0
@@ -62,28 +58,11 @@ laid_decodes xs m l =
 
 -- from the request to the layout
 
-step : (b : Bool) (p q : Direction × Addressing) (o : Option (Direction × Addressing)) (P : Direction × Addressing → Type 0)
-    → (b ≡ true → P p) → (o ≡ Some q → P q) → cond b (Some p) o ≡ Some q → P q
-step true p q o P y n h = let e : p ≡ q = cc in subst P e (y refl)
-step false p q o P y n h = n h
-
-none_some : (q : Direction × Addressing) → ◌≡◌ {A = Option (Direction × Addressing)} None (Some q) → ⊥
-none_some q h = let z : ◌≡◌ {A = ℕ} 0 1 = cc in omega arith
-
-digit_back : (n : ℕ) (q : Direction × Addressing) → service_of n ≡ Some q → n ≡ service_digit q.0 q.1
-digit_back n q =
-    let P : Direction × Addressing → Type 0 = λ r. n ≡ service_digit r.0 r.1 in
-    step (eqb n 0x1) (Write, Index8) q _ P (eqb-true n 0x1)
-    (step (eqb n 0x2) (Write, Index8Sub) q _ P (eqb-true n 0x2)
-    (step (eqb n 0x3) (Write, Index16Sub) q _ P (eqb-true n 0x3)
-    (step (eqb n 0x9) (Read, Index8) q _ P (eqb-true n 0x9)
-    (step (eqb n 0xA) (Read, Index8Sub) q _ P (eqb-true n 0xA)
-    (step (eqb n 0xB) (Read, Index16Sub) q _ P (eqb-true n 0xB) (λ h. absurd (none_some q h)))))))
+digit_back : (n : ℕ) (q : Service) → service_of n ≡ Some q → n ≡ service_digit q.direction q.addressing
+digit_back n q h = grind arith
 
 pub carried_fits : (d : Direction) (second : Bool) (ys : List ℕ) → fits_service d second ys ≡ true → Carries d second ys
-carried_fits Write second ys h = let n : length ys ≡ 0 → ⊥ = eqb-false (length ys) 0 (not-true _ h) in omega arith
-carried_fits Read second ys h =
-    let p = and_parts (eqb (length ys) 0) (not second) h in (eqb-true (length ys) 0 p.0, not-true _ p.1)
+carried_fits d second ys h = grind arith
 
 -- what the octets between length and check octet are, where they make a request
 abbrev Body : Direction → Addressing → Bool → List ℕ → Asked → Type 0
@@ -92,9 +71,7 @@ Body d a second bs m =
 
 made : (d : Direction) (second : Bool) (i s : ℕ) (ys : List ℕ) (m : Asked) → request_with d second (Some (i, s, ys)) ≡ Ok m
     → Carries d second ys × (record { direction = d; index = i; subindex = s; octets = ys } ≡ m)
-made d second i s ys m h =
-    let k = met (fits_service d second ys) (fault Service) (Ok (record { direction = d; index = i; subindex = s; octets = ys })) m h in
-    (carried_fits d second ys k.0, same_answer _ _ k.1)
+made d second i s ys m h = grind arith
 
 body : (d : Direction) (a : Addressing) (second : Bool) (bs : List ℕ) (m : Asked) → Octets bs → request_with d second (address_of a bs) ≡ Ok m → Body d a second bs m
 body d Index8 second [] m o h = absurd (no_answer _ m h)
@@ -119,12 +96,8 @@ body d Index16Sub second (i ∷ j ∷ s ∷ ys) m o h =
     let low : j ≡ (i * 256 + j) % 256 = omega arith in
     subst (Body d Index16Sub second (i ∷ j ∷ s ∷ ys)) k.1 (refl, omega arith, k.0, ap (λ u. u ∷ j ∷ s ∷ ys) high ∙ ap (λ u. ((i * 256 + j) / 256 % 256) ∷ u ∷ s ∷ ys) low)
 
-second_range : (n : ℕ) (xs : List ℕ) (t : ℕ) → 0 < t → second_length (n ∷ xs) ≡ t → (n ≡ t) × (17 ≤ n) × (n ≤ 238)
-second_range n xs t p h =
-    ⊎_elim
-    (λ e. let q = and_parts (leb 17 n) (leb n 238) e in (sym (cond-true _ n 0 e) ∙ h, leb-true 17 n q.0, leb-true n 238 q.1))
-    (λ e. absurd (omega (arith, cond-false _ n 0 e)))
-    (cases_Bool (leb 17 n && leb n 238))
+second_range : (n : ℕ) (xs : List ℕ) (t : ℕ) → second_length (n ∷ xs) ≡ Some t → (n ≡ t) × (17 ≤ n) × (n ≤ 238)
+second_range n xs t h = grind arith
 
 octets_take : (n : ℕ) (xs : List ℕ) → Octets xs → Octets (take n xs)
 octets_take zero xs o = tt
@@ -139,22 +112,21 @@ rest_whole a i s ys rest h b =
     split_last rest h ∙ ap (λ bs. bs ++ c ∷ []) b ∙ append_assoc (address_octets a i s) ys (c ∷ [])
 
 address_some : (a : Addressing) (i s : ℕ) (ys : List ℕ) → 1 ≤ length (address_octets a i s ++ ys)
-address_some Index8 i s ys = omega arith
-address_some Index8Sub i s ys = omega arith
-address_some Index16Sub i s ys = omega arith
+address_some a i s ys = grind arith
 
-laid_at : (q : Direction × Addressing) (second : Bool) (first : ℕ) (rest : List ℕ) (m : Asked) → Octets rest
-    → first / 16 ≡ service_digit q.0 q.1 → has_second first ≡ second
-    → cond second (second_length rest) (first % 16) ≡ length (first ∷ rest) → exclusive_or (first ∷ rest) ≡ 0
-    → request_with q.0 second (address_of q.1 (before_check (past_length second rest))) ≡ Ok m → Laid (first ∷ rest) m
+laid_at : (q : Service) (second : Bool) (first : ℕ) (rest : List ℕ) (m : Asked) → Octets rest
+    → first / 16 ≡ service_digit q.direction q.addressing → has_second first ≡ second
+    → cond second (second_length rest) (Some (first % 16)) ≡ Some (length (first ∷ rest)) → exclusive_or (first ∷ rest) ≡ 0
+    → request_with q.direction second (address_of q.addressing (before_check (past_length second rest))) ≡ Ok m → Laid (first ∷ rest) m
 laid_at q false first rest m o e b l z r =
-    let a = q.1 in
+    let a = q.addressing in
     let bs = before_check rest in
-    let k = body q.0 a false bs m (octets_take (length rest - 1) rest o) r in
+    let k = body q.direction a false bs m (octets_take (length rest - 1) rest o) r in
     let some : 1 ≤ length bs = rw k.3 (address_some a m.index m.subindex m.octets) in
     let u = before_check_length rest in
     let w = rest_whole a m.index m.subindex m.octets rest (omega arith) k.3 in
     let e' : first / 16 ≡ service_digit m.direction a = e ∙ ap (λ d. service_digit d a) (sym k.0) in
+    let low = same_Some (first % 16) (length (first ∷ rest)) l in
     let f : first ≡ 16 * service_digit m.direction a + length (first ∷ rest) = omega arith in
     record {
       addressing = a;
@@ -166,15 +138,15 @@ laid_at q false first rest m o e b l z r =
       carries = k.2;
       balanced = z;
     }
-laid_at q true first [] m o e b l z r = absurd (omega arith)
+laid_at q true first [] m o e b l z r = absurd (none-some _ l)
 laid_at q true first (t ∷ rest) m o e b l z r =
-    let a = q.1 in
+    let a = q.addressing in
     let bs = before_check rest in
-    let k = body q.0 a true bs m (octets_take (length rest - 1) rest o.1) r in
+    let k = body q.direction a true bs m (octets_take (length rest - 1) rest o.1) r in
     let some : 1 ≤ length bs = rw k.3 (address_some a m.index m.subindex m.octets) in
     let u = before_check_length rest in
     let w = rest_whole a m.index m.subindex m.octets rest (omega arith) k.3 in
-    let v = second_range t rest (length (first ∷ t ∷ rest)) (omega arith) l in
+    let v = second_range t rest (length (first ∷ t ∷ rest)) l in
     let e' : first / 16 ≡ service_digit m.direction a = e ∙ ap (λ d. service_digit d a) (sym k.0) in
     let one = eqb-true (first % 16) 1 b in
     let f : first ≡ 16 * service_digit m.direction a + 1 = omega arith in
@@ -192,18 +164,21 @@ laid_at q true first (t ∷ rest) m o e b l z r =
       balanced = z;
     }
 
-laid_served : (o : Option (Direction × Addressing)) (second : Bool) (first : ℕ) (rest : List ℕ) (m : Asked) → service_of (first / 16) ≡ o → has_second first ≡ second → Octets rest
-    → cond second (second_length rest) (first % 16) ≡ length (first ∷ rest) → exclusive_or (first ∷ rest) ≡ 0
+laid_served : (o : Option Service) (second : Bool) (first : ℕ) (rest : List ℕ) (m : Asked) → service_of (first / 16) ≡ o → has_second first ≡ second → Octets rest
+    → cond second (second_length rest) (Some (first % 16)) ≡ Some (length (first ∷ rest)) → exclusive_or (first ∷ rest) ≡ 0
     → request_of o second (before_check (past_length second rest)) ≡ Ok m → Laid (first ∷ rest) m
 laid_served None second first rest m e b o l z r = absurd (no_answer _ m r)
 laid_served (Some q) second first rest m e b o l z r = laid_at q second first rest m o (digit_back (first / 16) q e) b l z r
 
+is_stated : (o : Option ℕ) (n : ℕ) → option_eq eqb o (Some n) ≡ true → o ≡ Some n
+is_stated o n h = grind arith
+
 pub decodes_laid : (xs : List ℕ) (m : Asked) → Octets xs → decoded xs ≡ Ok m → Laid xs m
 decodes_laid [] m o h = absurd (no_answer _ m h)
 decodes_laid (first ∷ rest) m o h =
-    let p = passed (not (eqb (stated_length first rest) (length (first ∷ rest)))) (fault FrameLength) _ m h in
+    let p = passed (not (option_eq eqb (stated_length first rest) (Some (length (first ∷ rest))))) (fault FrameLength) _ m h in
     let r = passed (not (eqb (exclusive_or (first ∷ rest)) 0)) (fault CheckOctet) _ m p.1 in
-    let l = eqb-true (stated_length first rest) (length (first ∷ rest)) (not-false _ p.0) in
+    let l = is_stated (stated_length first rest) (length (first ∷ rest)) (not-false _ p.0) in
     let z = eqb-true (exclusive_or (first ∷ rest)) 0 (not-false _ r.0) in
     laid_served (service_of (first / 16)) (has_second first) first rest m refl refl o.1 l z r.1
 

@@ -1,6 +1,6 @@
 -- The check octet: with it the exclusive-or is 0, and no other octet makes it so.
 use Rattle.std.proofs.Common.{◌≡◌, ℕ, ◌+◌, ◌-◌, ◌≤◌, List, [], ◌∷◌, ◌++◌, length, get_or, sym, ◌∙◌, arith}
-use lib.Bits.{bit_xor, xor_self}
+use Rattle.std.specs.Int.Bits.{bit_xor, xor_self}
 use Rattle.std.proofs.lemmas.List.{length_push, length-take-le, take_all, take_at, take_more}
 use Rattle.std.proofs.lemmas.List.Sums.{fold_push}
 use Rattle.isdu.specs.CheckOctet.{exclusive_or, checked, before_check}

@@ -1,21 +1,12 @@
 -- A buffer after one part of a frame was written behind another.
-use Rattle.std.proofs.Common.{◌≡◌, ℕ, ◌+◌, ◌<◌, ◌≤◌, ltb, List, [], ◌∷◌, ◌++◌, length, take, drop, Ok, Result, sym, refl, ap, ◌∙◌, ⊎_elim, arith}
+use Rattle.std.proofs.Common.{◌≡◌, ℕ, ◌+◌, ◌≤◌, List, [], ◌∷◌, ◌++◌, length, take, drop, Ok, refl, ap, ◌∙◌, arith}
 use Rattle.octets.specs.Buffers.{over}
-use Rattle.std.proofs.lemmas.List.{append_assoc, length-append, length-drop, length_push, take_at, drop_at, drop-drop}
-use Rattle.std.proofs.lemmas.Bool.{ltb-false, cases_lt}
-use Rattle.faults.specs.declared.Fault.{Fault}
-use Rattle.faults.specs.declared.Denial.TheVariants.{NoFrame, BufferTooShort}
-use Rattle.faults.specs.Denials.{fault}
+use Rattle.std.proofs.lemmas.List.{append_assoc, length-append, take_at, drop_at, drop-drop}
 use Rattle.isdu.specs.CheckOctet.{exclusive_or, checked}
-use Rattle.isdu.specs.Composing.{shortest_heading, total_length, framed, delivered}
-use Rattle.isdu.proofs.Answered.{passed, same_answer}
-use Rattle.isdu.proofs.Frames.{framed_length, total_short, total_long}
+use Rattle.isdu.specs.Composing.{shortest_heading, framed, delivered}
 
 pub over_front : (ws xs ys : List ℕ) (n : ℕ) → n ≡ length ws → ys ≡ over ws xs → take n ys ≡ ws
 over_front ws xs ys n l y = rw (l, y) (take_at ws (drop (length ws) xs) (length ws) refl)
-
-pub over_length : (ws xs : List ℕ) → length ws ≤ length xs → length (over ws xs) ≡ length xs
-over_length ws xs h = length-append ws (drop (length ws) xs) ∙ omega (arith, length-drop (length ws) xs)
 
 over_more : (ws vs xs ys zs : List ℕ) (n : ℕ) → n ≡ length ws → ys ≡ over ws xs → zs ≡ take n ys ++ over vs (drop n ys)
     → zs ≡ over (ws ++ vs) xs
@@ -43,37 +34,8 @@ four_writes hs bs ds xs o₁ o₂ o₃ o₄ n₁ n₂ n₃ l₁ e₁ l₂ e₂ l
     ∙ ap (λ us. over (checked us) xs) (append_assoc hs bs ds)
 
 -- a frame of an address and data, by the lengths that are known before it is written
-pub record Parts (digit : ℕ) (bs ds : List ℕ) : Type 0 where
-  pub sum : length (bs ++ ds) ≡ length bs + length ds
-  pub same : framed digit (bs ++ ds) ≡ checked (shortest_heading digit (length bs + length ds + 2) ++ (bs ++ ds))
-  pub long : length (framed digit (bs ++ ds)) ≡ length (shortest_heading digit (length bs + length ds + 2)) + length bs + length ds + 1
-
-pub parts : (digit : ℕ) (bs ds : List ℕ) → Parts digit bs ds
-parts digit bs ds =
-    let n = length-append bs ds in
-    let hs = shortest_heading digit (length bs + length ds + 2) in
-    let e : framed digit (bs ++ ds) ≡ checked (hs ++ (bs ++ ds)) = ap (λ k. checked (shortest_heading digit (k + 2) ++ (bs ++ ds))) n in
-    record {
-      sum = n;
-      same = e;
-      long = omega (arith, ap length e, length_push (hs ++ (bs ++ ds)) (exclusive_or (hs ++ (bs ++ ds))), length-append hs (bs ++ ds));
-    }
-
-pub content_small : (digit : ℕ) (bs ds : List ℕ) → length (framed digit (bs ++ ds)) ≤ 238 → length bs + length ds + 2 < 238
-content_small digit bs ds h =
-    let n = length-append bs ds in
-    let t = framed_length digit (bs ++ ds) in
-    ⊎_elim
-    (λ k. omega (arith, total_long (length (bs ++ ds)) k))
-    (λ k. omega (arith, total_short (length (bs ++ ds)) k))
-    (cases_lt 15 (length (bs ++ ds) + 2))
-
--- the answer, by the lengths of address and data
-pub delivered_framed : (digit : ℕ) (bs ds : List ℕ) (room : ℕ) (r : Result ℕ Fault) → r ≡ delivered (total_length (length bs + length ds)) room → r ≡ delivered (length (framed digit (bs ++ ds))) room
-delivered_framed digit bs ds room r h = h ∙ ap (λ t. delivered t room) (sym (framed_length digit (bs ++ ds) ∙ ap total_length (length-append bs ds)))
+pub framed_parts : (digit : ℕ) (bs ds : List ℕ) → framed digit (bs ++ ds) ≡ checked (shortest_heading digit (length bs + length ds + 2) ++ (bs ++ ds))
+framed_parts digit bs ds = ap (λ k. checked (shortest_heading digit (k + 2) ++ (bs ++ ds))) (length-append bs ds)
 
 pub deliverable : (total room n : ℕ) → Ok n ≡ delivered total room → (n ≡ total) × (total ≤ 238) × (total ≤ room)
-deliverable total room n h =
-    let p = passed (ltb 238 total) (fault NoFrame) _ n (sym h) in
-    let q = passed (ltb room total) (fault BufferTooShort) _ n p.1 in
-    (sym (same_answer _ _ q.1), ltb-false 238 total p.0, ltb-false room total q.0)
+deliverable total room n h = grind arith

@@ -1,12 +1,11 @@
 -- The length of a frame, and what a frame with its length and check octet decodes as.
-use Rattle.std.proofs.Common.{◌≡◌, ℕ, ◌+◌, ◌*◌, ◌/◌, ◌%◌, ◌<◌, ◌≤◌, true, false, eqb, List, [], ◌∷◌, ◌++◌, length, ◌∙◌, ⊎_elim, arith}
+use Rattle.std.proofs.Common.{◌≡◌, ℕ, ◌+◌, ◌*◌, ◌/◌, ◌%◌, ◌<◌, ◌≤◌, true, false, eqb, List, [], ◌∷◌, ◌++◌, length, Some, ap, ◌∙◌, arith}
 use Rattle.std.proofs.lemmas.List.{length_push}
-use Rattle.std.proofs.lemmas.Bool.{cond-true, cond-false, le-leb, lt-leb, eq-eqb, ne_eqb, cases_lt}
-use Rattle.isdu.specs.CheckOctet.{exclusive_or}
+use Rattle.std.proofs.lemmas.Bool.{cond-true, cond-false, le-leb, lt-leb, eq-eqb, ne_eqb}
+use Rattle.isdu.specs.CheckOctet.{exclusive_or, before_check}
 use Rattle.isdu.specs.Services.{service_of}
-use Rattle.isdu.specs.Decoding.{request_of, decoded}
+use Rattle.isdu.specs.Decoding.{has_second, stated_length, past_length, request_of, decoded}
 use Rattle.isdu.specs.Composing.{heading, shortest_heading, total_length, framed}
-use Rattle.isdu.proofs.ByPlace.{decoded_cons}
 use Rattle.isdu.proofs.Balance.{before_check_push}
 
 pub heading_short : (s n : ℕ) → n ≤ 15 → shortest_heading s n ≡ heading false s n
@@ -22,11 +21,12 @@ pub total_long : (n : ℕ) → 15 < n + 2 → total_length n ≡ n + 2 + 1
 total_long n h = cond-false _ _ _ (lt-leb (n + 2) 15 h)
 
 pub framed_length : (s : ℕ) (xs : List ℕ) → length (framed s xs) ≡ total_length (length xs)
-framed_length s xs =
-    ⊎_elim
-    (λ h. rw (heading_long s (length xs + 2) h, lt-leb (length xs + 2) 15 h) (omega (arith, length_push xs (exclusive_or (heading true s (length xs + 2 + 1) ++ xs)))))
-    (λ h. rw (heading_short s (length xs + 2) h, le-leb (length xs + 2) 15 h) (omega (arith, length_push xs (exclusive_or (heading false s (length xs + 2) ++ xs)))))
-    (cases_lt 15 (length xs + 2))
+framed_length s xs = grind (arith, length_push)
+
+-- a frame that has the length it states and a right check octet
+pub decoded_cons : (first : ℕ) (rest : List ℕ) → stated_length first rest ≡ Some (length (first ∷ rest)) → exclusive_or (first ∷ rest) ≡ 0
+    → decoded (first ∷ rest) ≡ request_of (service_of (first / 16)) (has_second first) (before_check (past_length (has_second first) rest))
+decoded_cons first rest l z = grind arith
 
 pub decoded_short : (s n c : ℕ) (xs : List ℕ) → n ≡ length xs + 2 → n ≤ 15 → exclusive_or ((16 * s + n) ∷ xs ++ c ∷ []) ≡ 0
     → decoded ((16 * s + n) ∷ xs ++ c ∷ []) ≡ request_of (service_of s) false xs
@@ -34,7 +34,7 @@ decoded_short s n c xs e h z =
     let low : (16 * s + n) % 16 ≡ n = omega arith in
     let high : (16 * s + n) / 16 ≡ s = omega arith in
     let one : eqb ((16 * s + n) % 16) 1 ≡ false = ne_eqb _ _ (λ k. omega arith) in
-    decoded_cons (16 * s + n) (xs ++ c ∷ []) (rw one (omega (arith, length_push xs c))) z
+    decoded_cons (16 * s + n) (xs ++ c ∷ []) (rw one (ap Some (omega (arith, length_push xs c)))) z
     ∙ rw (one, high, before_check_push xs c)
 
 pub decoded_long : (s n c : ℕ) (xs : List ℕ) → n ≡ length xs + 3 → 17 ≤ n → n ≤ 238 → exclusive_or ((16 * s + 1) ∷ n ∷ xs ++ c ∷ []) ≡ 0
@@ -43,5 +43,5 @@ decoded_long s n c xs e h k z =
     let low : (16 * s + 1) % 16 ≡ 1 = omega arith in
     let high : (16 * s + 1) / 16 ≡ s = omega arith in
     let one : eqb ((16 * s + 1) % 16) 1 ≡ true = eq-eqb _ _ low in
-    decoded_cons (16 * s + 1) (n ∷ xs ++ c ∷ []) (rw (one, le-leb 17 n h, le-leb n 238 k) (omega (arith, length_push xs c))) z
+    decoded_cons (16 * s + 1) (n ∷ xs ++ c ∷ []) (rw (one, le-leb 17 n h, le-leb n 238 k) (ap Some (omega (arith, length_push xs c)))) z
     ∙ rw (one, high, before_check_push xs c)

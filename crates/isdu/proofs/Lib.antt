@@ -1,4 +1,3 @@
-mod ByPlace
 mod Answered
 mod Balance
 mod Frames

@@ -1,28 +1,30 @@
 -- What any octets ask for, or why they are denied.
-use Rattle.std.specs.Prelude.{ℕ, ◌/◌, ◌%◌, Bool, cond, not, ◌&&◌, List, [], ◌∷◌, length, drop, Some, None, Ok, Err, Option, Result, ◌==◌, nat_le}
+use Rattle.std.specs.Prelude.{ℕ, ◌/◌, ◌%◌, Bool, cond, not, ◌&&◌, List, [], ◌∷◌, length, drop, Some, None, Ok, Err, Option, Result, ◌==◌, nat_eq, nat_le}
+use Rattle.std.specs.Option.{option_eq}
 use Rattle.faults.specs.declared.Fault.{Fault}
-use Rattle.faults.specs.declared.Denial.TheVariants.{FrameLength, CheckOctet, Service}
+use Rattle.faults.specs.declared.Denial.TheVariants as Denial
+use Rattle.faults.specs.declared.Denial.TheVariants.{FrameLength, CheckOctet}
 use Rattle.faults.specs.Denials.{fault}
 use Rattle.isdu.specs.declared.Direction.{Direction}
 use Rattle.isdu.specs.declared.Direction.TheVariants.{Read, Write}
-use Rattle.isdu.specs.declared.services.Addressing.{Addressing}
+use Rattle.isdu.specs.declared.services.Service.{Service}
 use Rattle.isdu.specs.Requests.{Asked}
 use Rattle.isdu.specs.CheckOctet.{exclusive_or, before_check}
 use Rattle.isdu.specs.Services.{service_of}
 use Rattle.isdu.specs.Addresses.{address_of}
 
--- the length in the second octet, 17 to 238; any other octet is no length, told as 0
-abbrev pub second_length : List ℕ → ℕ
-second_length [] = 0
-second_length (octet ∷ rest) = cond (nat_le 17 octet && nat_le octet 238) octet 0
+-- the length in the second octet, 17 to 238; any other octet is no length
+abbrev pub second_length : List ℕ → Option ℕ
+second_length [] = None
+second_length (octet ∷ rest) = cond (nat_le 17 octet && nat_le octet 238) (Some octet) None
 
 -- whether the low digit of the first octet sends on to a second length octet
 abbrev pub has_second : ℕ → Bool
 has_second first = first % 16 == 1
 
 -- the length that a frame states: its low digit, or the second octet where that digit is 1
-abbrev pub stated_length : ℕ → List ℕ → ℕ
-stated_length first rest = cond (has_second first) (second_length rest) (first % 16)
+abbrev pub stated_length : ℕ → List ℕ → Option ℕ
+stated_length first rest = cond (has_second first) (second_length rest) (Some (first % 16))
 
 -- what follows the length, of the octets after the first
 abbrev pub past_length : Bool → List ℕ → List ℕ
@@ -33,23 +35,25 @@ abbrev pub fits_service : Direction → Bool → List ℕ → Bool
 fits_service Write second octets = not (length octets == 0)
 fits_service Read second octets = length octets == 0 && not second
 
+-- the request of a direction with index, subindex and data
+abbrev pub asked_with : Direction → ℕ × ℕ × List ℕ → Asked
+asked_with direction fields = record { direction = direction; index = fields.0; subindex = fields.1; octets = fields.2 }
+
 -- the request of a direction with its fields, if they fit
 abbrev pub request_with : Direction → Bool → Option (ℕ × ℕ × List ℕ) → Result Asked Fault
-request_with direction second None = Err (fault Service)
+request_with direction second None = Err (fault Denial.Service)
 request_with direction second (Some fields) =
-    cond (fits_service direction second fields.2)
-    (Ok (record { direction = direction; index = fields.0; subindex = fields.1; octets = fields.2 }))
-    (Err (fault Service))
+    cond (fits_service direction second fields.2) (Ok (asked_with direction fields)) (Err (fault Denial.Service))
 
 -- the request of a service whose fields are the octets between length and check octet
-abbrev pub request_of : Option (Direction × Addressing) → Bool → List ℕ → Result Asked Fault
-request_of None second body = Err (fault Service)
-request_of (Some service) second body = request_with service.0 second (address_of service.1 body)
+abbrev pub request_of : Option Service → Bool → List ℕ → Result Asked Fault
+request_of None second body = Err (fault Denial.Service)
+request_of (Some service) second body = request_with service.direction second (address_of service.addressing body)
 
 -- the checks in their order: length, check octet, service and fields
 abbrev pub decoded : List ℕ → Result Asked Fault
 decoded [] = Err (fault FrameLength)
 decoded (first ∷ rest) =
-    cond (not (stated_length first rest == length (first ∷ rest))) (Err (fault FrameLength))
+    cond (not (option_eq nat_eq (stated_length first rest) (Some (length (first ∷ rest))))) (Err (fault FrameLength))
     (cond (not (exclusive_or (first ∷ rest) == 0)) (Err (fault CheckOctet))
     (request_of (service_of (first / 16)) (has_second first) (before_check (past_length (has_second first) rest))))

@@ -4,6 +4,7 @@ use Rattle.isdu.specs.declared.Direction.{Direction}
 use Rattle.isdu.specs.declared.Direction.TheVariants.{Read, Write}
 use Rattle.isdu.specs.declared.services.Addressing.{Addressing}
 use Rattle.isdu.specs.declared.services.Addressing.TheVariants.{Index8, Index8Sub, Index16Sub}
+use Rattle.isdu.specs.declared.services.Service.{Service}
 
 -- the digit of a service
 abbrev pub service_digit : Direction → Addressing → ℕ
@@ -14,12 +15,15 @@ service_digit Read Index8 = 0x9
 service_digit Read Index8Sub = 0xA
 service_digit Read Index16Sub = 0xB
 
+abbrev pub service : Direction → Addressing → Service
+service direction addressing = record { direction = direction; addressing = addressing }
+
 -- the service of a digit; every other digit is none of a request
-abbrev pub service_of : ℕ → Option (Direction × Addressing)
+abbrev pub service_of : ℕ → Option Service
 service_of digit =
-    cond (digit == 0x1) (Some (Write, Index8))
-    (cond (digit == 0x2) (Some (Write, Index8Sub))
-    (cond (digit == 0x3) (Some (Write, Index16Sub))
-    (cond (digit == 0x9) (Some (Read, Index8))
-    (cond (digit == 0xA) (Some (Read, Index8Sub))
-    (cond (digit == 0xB) (Some (Read, Index16Sub)) None)))))
+    cond (digit == 0x1) (Some (service Write Index8))
+    (cond (digit == 0x2) (Some (service Write Index8Sub))
+    (cond (digit == 0x3) (Some (service Write Index16Sub))
+    (cond (digit == 0x9) (Some (service Read Index8))
+    (cond (digit == 0xA) (Some (service Read Index8Sub))
+    (cond (digit == 0xB) (Some (service Read Index16Sub)) None)))))

@@ -6,11 +6,7 @@ ghost use Rattle.std.specs.Prelude.{◌≡◌, ◌==◌};
 pub(crate) fn exclusive_or(octets: &[u8]) -> u8
     ensures { result ≡ exclusive_or octets.now }
 {
-    let mut all = 0;
-    for octet in octets {
-        all ^= *octet;
-    }
-    all
+    octets.iter().fold(0, |all, octet| all ^ octet)
 }
 
 // Whether the last octet of a frame is its check octet.

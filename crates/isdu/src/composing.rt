@@ -6,7 +6,7 @@ ghost use Rattle.isdu.specs.Views.{asks};
 ghost use Rattle.octets.specs.Buffers.{left};
 
 use crate::Request;
-use crate::services::{Addressing, digit_of, fits_service, shortest};
+use crate::services::{Addressing, Digit, Service, fits_service, shortest};
 use crate::writing::send;
 use faults::{Denial, Fault};
 
@@ -17,7 +17,10 @@ fn send_request(request: &Request, out: &mut [u8]) -> Result<usize, Fault>
     ensures index { request.now.index < 65536 }
 {
     let addressing = shortest(request.index, request.subindex);
-    let digit = digit_of(request.direction, addressing);
+    let digit = Digit::from(Service {
+        direction: request.direction,
+        addressing,
+    });
     let subindex = request.subindex;
     let data = request.data;
     let [high, low] = request.index.to_be_bytes();

@@ -1,10 +1,11 @@
 // Replies to a request.
-ghost use Rattle.std.specs.Prelude.{◌≡◌, ◌<◌, length};
+ghost use Rattle.std.specs.Prelude.{◌≡◌, length};
 ghost use Rattle.isdu.specs.Composing.{delivered};
 ghost use Rattle.isdu.specs.Replies.{read_replied, read_reply, refusal, refusal_digit, write_reply};
 ghost use Rattle.octets.specs.Buffers.{left};
 
 use crate::Direction;
+use crate::services::Digit;
 use crate::writing::send;
 use faults::{Denial, Fault};
 
@@ -13,7 +14,7 @@ pub fn confirm_write(out: &mut [u8]) -> Result<usize, Fault>
     ensures answer { result ≡ delivered (length write_reply) (length out.old) }
     ensures buffer { out.new ≡ left result write_reply out.old }
 {
-    send(0x5, &[], &[], out)
+    send(Digit { value: 0x5 }, &[], &[], out)
 }
 
 // The reply to a read, with what was read.
@@ -21,20 +22,20 @@ pub fn confirm_read(data: &[u8], out: &mut [u8]) -> Result<usize, Fault>
     ensures answer { result ≡ read_replied «data».now (length out.old) }
     ensures buffer { out.new ≡ left result (read_reply «data».now) out.old }
 {
-    if data.len() == 0 {
+    if data.is_empty() {
         return Err(Fault::of(Denial::NoFrame));
     }
-    send(0xD, &[], data, out)
+    send(Digit { value: 0xD }, &[], data, out)
 }
 
-fn refusal_digit(direction: Direction) -> u8
-    ensures value { result ≡ refusal_digit direction }
-    ensures bound { result < 16 }
+fn refusal_digit(direction: Direction) -> Digit
+    ensures { result.value ≡ refusal_digit direction }
 {
-    match direction {
+    let value = match direction {
         Direction::Write => 0x4,
         Direction::Read => 0xC,
-    }
+    };
+    Digit { value }
 }
 
 // The reply to a request that is refused with an ErrorCode.

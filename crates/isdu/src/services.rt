@@ -1,10 +1,12 @@
 // The services of a request, and how each gives index and subindex.
+ghost use Rattle.faults.specs.declared.Denial.TheVariants as denials;
 ghost use Rattle.isdu.specs.Addresses.{shortest_addressing};
 ghost use Rattle.isdu.specs.Decoding.{fits_service};
 ghost use Rattle.isdu.specs.Services.{service_digit, service_of};
-ghost use Rattle.std.specs.Prelude.{◌≡◌, ◌<◌};
+ghost use Rattle.std.specs.Prelude.{◌≡◌, ◌<◌, ok_or};
 
 use crate::Direction;
+use faults::Denial;
 
 #[derive(Clone, Copy)]
 pub(crate) enum Addressing {
@@ -16,32 +18,55 @@ pub(crate) enum Addressing {
     Index16Sub,
 }
 
-// The service of a digit, unless it is none of a request.
-pub(crate) fn service_of(digit: u8) -> Option<(Direction, Addressing)>
-    ensures { result ≡ service_of digit }
-{
-    match digit {
-        0x1 => Some((Direction::Write, Addressing::Index8)),
-        0x2 => Some((Direction::Write, Addressing::Index8Sub)),
-        0x3 => Some((Direction::Write, Addressing::Index16Sub)),
-        0x9 => Some((Direction::Read, Addressing::Index8)),
-        0xA => Some((Direction::Read, Addressing::Index8Sub)),
-        0xB => Some((Direction::Read, Addressing::Index16Sub)),
-        _ => None,
+// A service of a request.
+#[derive(Clone, Copy)]
+pub(crate) struct Service {
+    pub(crate) direction: Direction,
+    pub(crate) addressing: Addressing,
+}
+
+// The high digit of a frame's first octet, which tells the service.
+#[derive(Clone, Copy)]
+pub(crate) struct Digit {
+    pub(crate) value: u8,
+    ghost small: { value < 16 },
+}
+
+impl TryFrom<u8> for Service {
+    type Error = Denial;
+
+    ghost try_from_gives = { λ digit result. result ≡ ok_or (service_of digit) denials.Service };
+
+    fn try_from(digit: u8) -> Result<Service, Denial> {
+        let (direction, addressing) = match digit {
+            0x1 => (Direction::Write, Addressing::Index8),
+            0x2 => (Direction::Write, Addressing::Index8Sub),
+            0x3 => (Direction::Write, Addressing::Index16Sub),
+            0x9 => (Direction::Read, Addressing::Index8),
+            0xA => (Direction::Read, Addressing::Index8Sub),
+            0xB => (Direction::Read, Addressing::Index16Sub),
+            _ => return Err(Denial::Service),
+        };
+        Ok(Service {
+            direction,
+            addressing,
+        })
     }
 }
 
-pub(crate) fn digit_of(direction: Direction, addressing: Addressing) -> u8
-    ensures value { result ≡ service_digit direction addressing }
-    ensures bound { result < 16 }
-{
-    match (direction, addressing) {
-        (Direction::Write, Addressing::Index8) => 0x1,
-        (Direction::Write, Addressing::Index8Sub) => 0x2,
-        (Direction::Write, Addressing::Index16Sub) => 0x3,
-        (Direction::Read, Addressing::Index8) => 0x9,
-        (Direction::Read, Addressing::Index8Sub) => 0xA,
-        (Direction::Read, Addressing::Index16Sub) => 0xB,
+impl From<Service> for Digit {
+    ghost from_gives = { λ service digit. digit.value ≡ service_digit service.direction service.addressing };
+
+    fn from(service: Service) -> Digit {
+        let value = match (service.direction, service.addressing) {
+            (Direction::Write, Addressing::Index8) => 0x1,
+            (Direction::Write, Addressing::Index8Sub) => 0x2,
+            (Direction::Write, Addressing::Index16Sub) => 0x3,
+            (Direction::Read, Addressing::Index8) => 0x9,
+            (Direction::Read, Addressing::Index8Sub) => 0xA,
+            (Direction::Read, Addressing::Index16Sub) => 0xB,
+        };
+        Digit { value }
     }
 }
 
@@ -63,7 +88,7 @@ pub(crate) fn fits_service(direction: Direction, second: bool, data: &[u8]) -> b
     ensures { result ≡ fits_service direction second «data».now }
 {
     match direction {
-        Direction::Write => data.len() != 0,
-        Direction::Read => data.len() == 0 && !second,
+        Direction::Write => !data.is_empty(),
+        Direction::Read => data.is_empty() && !second,
     }
 }

@@ -5,9 +5,11 @@ ghost use Rattle.isdu.specs.Composing.{delivered, framed, shortest_heading, tota
 ghost use Rattle.octets.specs.Buffers.{left, over};
 
 use crate::checks::exclusive_or;
+use crate::services::Digit;
 use faults::{Denial, Fault};
 
-// Writes octets at a place and answers the place after them.
+// Writes octets at a place and answers the place after them. The place goes beside the buffer: the check octet is taken over
+// all octets before it, so the front has to be had whole again.
 fn put(out: &mut [u8], at: usize, octets: &[u8]) -> usize
     requires { at + length octets.now ≤ length out.old }
     ensures end { result ≡ at + length octets.now }
@@ -19,16 +21,17 @@ fn put(out: &mut [u8], at: usize, octets: &[u8]) -> usize
 }
 
 // Writes service and length of a frame that has `size` octets without a second length octet.
-fn put_heading(out: &mut [u8], digit: u8, size: usize) -> usize
-    requires small { (digit < 16) × (size < 238) }
-    requires room { length (shortest_heading digit size) ≤ length out.old }
-    ensures end { result ≡ length (shortest_heading digit size) }
-    ensures buffer { out.new ≡ over (shortest_heading digit size) out.old }
+fn put_heading(out: &mut [u8], digit: Digit, size: usize) -> usize
+    requires small { size < 238 }
+    requires room { length (shortest_heading digit.value size) ≤ length out.old }
+    ensures end { result ≡ length (shortest_heading digit.value size) }
+    ensures buffer { out.new ≡ over (shortest_heading digit.value size) out.old }
 {
+    let high = 16 * digit.value;
     if size <= 15 {
-        put(out, 0, &[16 * digit + size as u8])
+        put(out, 0, &[high + size as u8])
     } else {
-        put(out, 0, &[16 * digit + 1, (size + 1) as u8])
+        put(out, 0, &[high + 1, (size + 1) as u8])
     }
 }
 
@@ -46,11 +49,12 @@ fn put_check(out: &mut [u8], at: usize) -> usize
 fn frame_length(address: &[u8], data: &[u8], room: usize) -> Result<usize, Fault>
     ensures { result ≡ delivered (total_length (length address.now + length «data».now)) room }
 {
-    if address.len() > 238 || data.len() > 238 {
-        return Err(Fault::of(Denial::NoFrame));
-    }
-    let size = address.len() + data.len() + 2;
-    let total = if size <= 15 { size } else { size + 1 };
+    let size = address.len().saturating_add(data.len()).saturating_add(2);
+    let total = if size <= 15 {
+        size
+    } else {
+        size.saturating_add(1)
+    };
     if total > 238 {
         return Err(Fault::of(Denial::NoFrame));
     }
@@ -61,11 +65,11 @@ fn frame_length(address: &[u8], data: &[u8], room: usize) -> Result<usize, Fault
 }
 
 // Writes a frame for which there is room, and answers its length.
-fn put_frame(out: &mut [u8], digit: u8, address: &[u8], data: &[u8]) -> usize
-    requires small { (digit < 16) × (length (framed digit (address.now ++ «data».now)) ≤ 238) }
-    requires room { length (framed digit (address.now ++ «data».now)) ≤ length out.old }
-    ensures end { result ≡ length (framed digit (address.now ++ «data».now)) }
-    ensures buffer { out.new ≡ over (framed digit (address.now ++ «data».now)) out.old }
+fn put_frame(out: &mut [u8], digit: Digit, address: &[u8], data: &[u8]) -> usize
+    requires small { length (framed digit.value (address.now ++ «data».now)) ≤ 238 }
+    requires room { length (framed digit.value (address.now ++ «data».now)) ≤ length out.old }
+    ensures end { result ≡ length (framed digit.value (address.now ++ «data».now)) }
+    ensures buffer { out.new ≡ over (framed digit.value (address.now ++ «data».now)) out.old }
 {
     let at = put_heading(out, digit, address.len() + data.len() + 2);
     let at = put(out, at, address);
@@ -73,11 +77,16 @@ fn put_frame(out: &mut [u8], digit: u8, address: &[u8], data: &[u8]) -> usize
     put_check(out, at)
 }
 
-// Writes the frame of a service, in its shortest form, over the front of the buffer and answers its length.
-pub(crate) fn send(digit: u8, address: &[u8], data: &[u8], out: &mut [u8]) -> Result<usize, Fault>
-    requires { digit < 16 }
-    ensures answer { result ≡ delivered (length (framed digit (address.now ++ «data».now))) (length out.old) }
-    ensures buffer { out.new ≡ left result (framed digit (address.now ++ «data».now)) out.old }
+// Writes the frame with this digit, in its shortest form, over the front of the buffer and answers its length.
+// Digit, address and data go as parameters: a struct of the three makes each call longer.
+pub(crate) fn send(
+    digit: Digit,
+    address: &[u8],
+    data: &[u8],
+    out: &mut [u8],
+) -> Result<usize, Fault>
+    ensures answer { result ≡ delivered (length (framed digit.value (address.now ++ «data».now))) (length out.old) }
+    ensures buffer { out.new ≡ left result (framed digit.value (address.now ++ «data».now)) out.old }
 {
     frame_length(address, data, out.len())?;
     Ok(put_frame(out, digit, address, data))

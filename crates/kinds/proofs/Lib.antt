@@ -1,1 +1,2 @@
 pub mod Bounds
+mod Words

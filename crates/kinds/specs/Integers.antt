@@ -1,8 +1,9 @@
 -- The rules that the makes of whole numbers share, stated once for every width.
 use Rattle.std.specs.Prelude.{ℕ, ◌^◌, ◌<◌, List, ℤ, pos, ◌+ℤ◌, ◌-ℤ◌, Some, Option}
 use Rattle.std.specs.Int.Signed.{mag, shr_z}
-use mir.Val.{to_z, of_z, hbits}
+use Rattle.std.proofs.Common.{to_z, of_z}
 use Rattle.std.specs.Int.{saturate_to_bits, Width}
+use mir.Val.{hbits}
 use Rattle.numbers.specs.Octets.{Coding}
 use Rattle.numbers.specs.Options.{when_some}
 use Rattle.numbers.proofs.Wholes.{saturated_within, half_within, read_within}

@@ -1,9 +1,9 @@
 -- Every make of whole numbers shows the laws, whatever its word.
 use Rattle.std.specs.Prelude.{◌≡◌, ℕ, ◌^◌, Bool, true, false, cond, ◌⊎◌, length, ℤ, pos, ◌+ℤ◌, ◌-ℤ◌, neg_ℤ, ◌≤ℤ◌, ◌<ℤ◌, Some, Option, int_le, refl}
-use Rattle.std.proofs.Common.{sym, ap, ◌∙◌, subst, arith}
+use Rattle.std.proofs.Common.{sym, ap, ◌∙◌, subst, arith, of_z}
 use Rattle.std.proofs.Math.IntN.{+ℤ_idr}
 use Rattle.std.specs.Int.Signed.{shr_z, ≤ℤ_refl}
-use mir.Val.{of_z, hbits, bits}
+use mir.Val.{hbits, bits}
 use Rattle.std.proofs.lemmas.Int.{ints, to_z-of_z}
 use Rattle.std.specs.Int.{saturate_to_bits}
 use Rattle.numbers.specs.Options.{when_some}

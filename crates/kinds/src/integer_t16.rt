@@ -4,7 +4,7 @@ ghost use Rattle.std.specs.Int.Signed.{mag};
 
 pub mod kind;
 
-#[derive(Clone, Copy)]
+#[derive(Clone, Copy, PartialEq, PartialOrd)]
 pub struct IntegerT16 {
     value: i16,
     ghost within: { T (nat_lt (mag value) (2 ^ 15)) },

@@ -4,7 +4,7 @@ ghost use Rattle.std.specs.Int.Signed.{mag};
 
 pub mod kind;
 
-#[derive(Clone, Copy)]
+#[derive(Clone, Copy, PartialEq, PartialOrd)]
 pub struct IntegerT32 {
     value: i32,
     ghost within: { T (nat_lt (mag value) (2 ^ 31)) },

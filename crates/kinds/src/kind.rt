@@ -1,9 +1,10 @@
 // A kind of measured value. The core is written once over this trait.
-ghost use Rattle.kinds.specs.Meaning.{Lawful, Meaning};
+ghost use Rattle.kinds.specs.Meaning.{Lawful, Meaning, greater, lesser};
 ghost use Rattle.octets.specs.Buffers.{fitting, placed};
-ghost use Rattle.std.specs.Prelude.{◌≡◌, int_le, int_lt};
+ghost use Rattle.std.specs.Prelude.{◌≡◌, ℕ, Some, int_le, int_lt};
+ghost use Rattle.std.specs.Ordering.{int_cmp};
 
-pub trait Kind: Sized + Copy {
+pub trait Kind: Copy + PartialOrd {
     // The number of octets of a value.
     const OCTET_WIDTH: usize;
     // The ends past which no range goes.
@@ -13,26 +14,40 @@ pub trait Kind: Sized + Copy {
     // What a step is worth.
     const STEP: f32;
 
+    ghost OCTET_WIDTH: { ℕ };
+
+    ghost LOWEST_END: { Self };
+
+    ghost HIGHEST_END: { Self };
+
     ghost meaning: { Meaning Self };
 
-    fn width() -> usize
-        ensures { result ≡ meaning.width };
+    final fn width() -> usize
+        ensures { result ≡ meaning.width }
+    {
+        Self::OCTET_WIDTH
+    }
 
-    fn low_limit() -> Self
-        ensures { result ≡ meaning.low_limit };
+    final fn low_limit() -> Self
+        ensures { result ≡ meaning.low_limit }
+    {
+        Self::LOWEST_END
+    }
 
-    fn high_limit() -> Self
-        ensures { result ≡ meaning.high_limit };
+    final fn high_limit() -> Self
+        ensures { result ≡ meaning.high_limit }
+    {
+        Self::HIGHEST_END
+    }
 
-    // What stands in process data in place of a value below the range, above it, or where there is none; lent for as long
-    // as the caller wants.
-    fn below_substitute<'a>() -> &'a [u8]
+    // What stands in process data in place of a value below the range, above it, or where there is none.
+    fn below_substitute() -> &'static [u8]
         ensures { result.now ≡ meaning.below_substitute };
 
-    fn above_substitute<'a>() -> &'a [u8]
+    fn above_substitute() -> &'static [u8]
         ensures { result.now ≡ meaning.above_substitute };
 
-    fn no_data_substitute<'a>() -> &'a [u8]
+    fn no_data_substitute() -> &'static [u8]
         ensures { result.now ≡ meaning.no_data_substitute };
 
     // The value of the octets, high octet first; none where they are no value.
@@ -44,11 +59,32 @@ pub trait Kind: Sized + Copy {
         ensures answer { result ≡ fitting (meaning.octets self) out.old }
         ensures buffer { out.new ≡ placed (meaning.octets self) out.old };
 
-    fn at_most(self, other: Self) -> bool
-        ensures { result ≡ int_le (meaning.rank self) (meaning.rank other) };
+    // Callers take these two for `<=` and `<`, as they promise by rank. Tried: `<=` and `<` in `Row::turns_on` and `turns_off`.
+    // Seven goals stayed open: the search does not rewrite by the law `ranked`.
+    final fn at_most(self, other: Self) -> bool
+        ensures { result ≡ int_le (meaning.rank self) (meaning.rank other) }
+    {
+        self <= other
+    }
 
-    fn is_under(self, other: Self) -> bool
-        ensures { result ≡ int_lt (meaning.rank self) (meaning.rank other) };
+    final fn is_under(self, other: Self) -> bool
+        ensures { result ≡ int_lt (meaning.rank self) (meaning.rank other) }
+    {
+        self < other
+    }
+
+    // The lower of two values, and the higher. No `Ord::min` and `max`: a float derives no `Ord`.
+    final fn lesser(self, other: Self) -> Self
+        ensures { result ≡ lesser meaning self other }
+    {
+        if self.at_most(other) { self } else { other }
+    }
+
+    final fn greater(self, other: Self) -> Self
+        ensures { result ≡ greater meaning self other }
+    {
+        if self.at_most(other) { other } else { self }
+    }
 
     fn raise(self, steps: u16) -> Self
         ensures { result ≡ meaning.raised self steps };
@@ -61,4 +97,10 @@ pub trait Kind: Sized + Copy {
         ensures { result ≡ meaning.middle self other };
 
     ghost lawful: { Lawful Self meaning };
+
+    // Values compare as their ranks do.
+    ghost ranked: { (v w : Self) → Self.partial_cmp v w ≡ Some (int_cmp (meaning.rank v) (meaning.rank w)) };
+
+    // The constants are the meaning's.
+    ghost constants: { (OCTET_WIDTH ≡ meaning.width) × (LOWEST_END ≡ meaning.low_limit) × (HIGHEST_END ≡ meaning.high_limit) };
 }

@@ -26,20 +26,16 @@ mod tests {
 
     #[test]
     fn whole_numbers(rt: HostRuntime) -> Result<(), Fail> {
-        let Some(low) = IntegerT16::read(&[0xff, 0xfd]) else {
-            return Err(Fail::new("-3 does not read"));
-        };
-        let Some(zero) = IntegerT16::read(&[0x00, 0x00]) else {
-            return Err(Fail::new("0 does not read"));
-        };
+        let low = IntegerT16::read(&[0xff, 0xfd]).ok_or("-3 does not read")?;
+        let zero = IntegerT16::read(&[0x00, 0x00]).ok_or("0 does not read")?;
         assert_eq!(rt; written(low.middle(zero)), 0xfffe);
         assert_eq!(rt; written(low.lower(65_535)), 0x8000);
         assert_eq!(rt; written(zero.raise(65_535)), 0x7fff);
         assert!(rt; low.is_under(zero) && !zero.at_most(low));
         assert!(rt; IntegerT16::read(&[0x00, 0x00, 0x00]).is_none());
-        let Some(most) = IntegerT32::read(&[0x7f, 0xff, 0xff, 0xf0]) else {
-            return Err(Fail::new("15 below the highest does not read"));
-        };
+        let most = IntegerT32::read(&[0x7f, 0xff, 0xff, 0xf0]).ok_or(
+            "15 below the highest does not read",
+        )?;
         assert_eq!(rt; written(most.raise(16)), 0x7fff_ffff);
         assert_eq!(rt; written(most.lower(16)), 0x7fff_ffe0);
         Ok(())
@@ -47,12 +43,8 @@ mod tests {
 
     #[test]
     fn floats(rt: HostRuntime) -> Result<(), Fail> {
-        let Some(one) = Float32T::read(&[0x3f, 0x80, 0x00, 0x00]) else {
-            return Err(Fail::new("1 does not read"));
-        };
-        let Some(minus_zero) = Float32T::read(&[0x80, 0x00, 0x00, 0x00]) else {
-            return Err(Fail::new("-0 does not read"));
-        };
+        let one = Float32T::read(&[0x3f, 0x80, 0x00, 0x00]).ok_or("1 does not read")?;
+        let minus_zero = Float32T::read(&[0x80, 0x00, 0x00, 0x00]).ok_or("-0 does not read")?;
         assert_eq!(rt; written(one.raise(1024)), 0x4000_0000);
         assert_eq!(rt; written(one.lower(1024)), 0);
         assert_eq!(rt; written(one.lower(1536)), 0xbf00_0000);

@@ -1,12 +1,12 @@
 -- A float as a fraction a / c with a sign s: `HasValue x s a c`.
 use Rattle.std.proofs.Common.{◌≡◌, ℕ, zero, suc, ◌+◌, ◌-◌, ◌*◌, ◌/◌, ◌^◌, ◌<◌, Bool, true, false, cond, not, ◌&&◌, T, ltb, sym, refl, ap, ◌∙◌, lt_of_mul-lt-mul_right, mul-lt-mul_of_pos_right, mul-div_cancel, arith, ltb→lt, lt→ltb}
-use mathlib.Core.Bool.{beq}
-use native.Mathlib.Nat.{eq_of_mul-eq-mul_right, mul-sub}
-use lib.Ieee.{Float, nan, inf, fin, Format, prec, emax, low, hid, top, up, down, size, odd, units, round, neg, sum, to_bits, of_bits, fits}
-use lib.Ieee.Bits.{of_bits-to_bits}
-use lib.Ieee.Exact.{HasValue}
-use lib.Ieee.Fits.{down_pos, round_is}
-use lib.Ieee.Scale.{finite, round_same}
+use Rattle.std.proofs.Math.Bool.{beq}
+use Rattle.std.proofs.Math.Nat.{eq_of_mul-eq-mul_right, mul-sub}
+use Rattle.std.specs.Float.Ieee.{Float, nan, inf, fin, Format, prec, emax, low, hid, top, up, down, size, odd, units, round, neg, sum, to_bits, of_bits, fits}
+use Rattle.std.specs.Float.Ieee.Bits.{of_bits-to_bits}
+use Rattle.std.specs.Float.Ieee.Exact.{HasValue}
+use Rattle.std.specs.Float.Ieee.Fits.{down_pos, round_is}
+use Rattle.std.specs.Float.Ieee.Scale.{finite, round_same}
 
 -- ---- a value has one sign and one size, and fixes the float
 pub value_finite : (x : Float) (s : Bool) (a c : ℕ) → HasValue x s a c → finite x ≡ true
@@ -60,10 +60,7 @@ opposite_round f a c = ap neg (round_is f false a c) ∙ opposite_units f _ _ �
 
 -- ---- fractions a / c and u / d of the same size, and b / c and w / d
 pub equal_tests : (a b : Bool) → (T a → T b) → (T b → T a) → a ≡ b
-equal_tests true true p q = refl
-equal_tests true false p q = absurd (p tt)
-equal_tests false true p q = absurd (q tt)
-equal_tests false false p q = refl
+equal_tests a b p q = grind arith
 
 module _ (a b u w c d : ℕ) where
   less_too : 0 < d → a * d ≡ u * c → b * d ≡ w * c → a < b → u < w

@@ -1,10 +1,10 @@
 -- -0 taken as +0, and the middle of two values.
 use Rattle.std.proofs.Common.{◌≡◌, ◌^◌, Bool, true, false, cond, T, ℤ, pos, ◌≤ℤ◌, sym, refl, ap, ◌∙◌, subst, true≢false}
-use lib.Signed.{le_z, ≤ℤ_refl}
-use lib.Ieee.{Float, nan, inf, fin, binary32, mul, le, eq, to_bits, of_bits, fits}
-use lib.Ieee.Fits.{add-fits}
-use lib.Ieee.Scale.{finite}
-use lib.Ieee.Bits.{of_bits-to_bits}
+use Rattle.std.specs.Int.Signed.{le_z, ≤ℤ_refl}
+use Rattle.std.specs.Float.Ieee.{Float, nan, inf, fin, binary32, mul, le, eq, to_bits, of_bits, fits}
+use Rattle.std.specs.Float.Ieee.Fits.{add-fits}
+use Rattle.std.specs.Float.Ieee.Scale.{finite}
+use Rattle.std.specs.Float.Ieee.Bits.{of_bits-to_bits}
 use Rattle.numbers.specs.Floats.{rank, proper, zero_float, plain, between, lower_of, higher_of, half, halves, middle}
 use Rattle.numbers.proofs.Moves.{worth_fixes}
 use Rattle.numbers.proofs.Order.{le_worth, le_rank, zero_worth}

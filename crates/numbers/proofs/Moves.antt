@@ -1,12 +1,12 @@
 -- What adding and taking away a distance do to a value and its rank.
 use Rattle.std.proofs.Common.{◌≡◌, ℕ, zero, suc, ◌+◌, ◌*◌, ◌^◌, ◌<◌, ◌≤◌, min, Bool, true, false, T, ℤ, pos, negsuc, ◌+ℤ◌, neg_ℤ, nat_abs, ◌≤ℤ◌, sym, refl, ap, ◌∙◌, subst, le_trans, lt_of_le_of_lt, arith, lit<, lit≤, pow_pos, leb-true}
-use lib.IntN.{+ℤ_idr}
-use lib.Ieee.{Float, nan, inf, fin, binary32, up, down, unlike, round, add, sub, mul, neg, of_int, to_bits, of_bits, fits}
-use lib.Ieee.Back.{round_whole}
-use lib.Ieee.Bits.{to_bits-lt}
-use lib.Ieee.Exact.{HasValue, round_exact}
-use lib.Ieee.Fits.{down_pos}
-use lib.Ieee.Scale.{round_same}
+use Rattle.std.proofs.Math.IntN.{+ℤ_idr}
+use Rattle.std.specs.Float.Ieee.{Float, nan, inf, fin, binary32, up, down, unlike, round, add, sub, mul, neg, of_int, to_bits, of_bits, fits}
+use Rattle.std.specs.Float.Ieee.Back.{round_whole}
+use Rattle.std.specs.Float.Ieee.Bits.{to_bits-lt}
+use Rattle.std.specs.Float.Ieee.Exact.{HasValue, round_exact}
+use Rattle.std.specs.Float.Ieee.Fits.{down_pos}
+use Rattle.std.specs.Float.Ieee.Scale.{round_same}
 use Rattle.std.proofs.lemmas.Int.{ints}
 use Rattle.numbers.specs.Floats.{negative, magnitude, signed, rank, proper, step, distance, ExactDistances}
 use Rattle.numbers.proofs.Fractions.{value_fixes, neg_value}

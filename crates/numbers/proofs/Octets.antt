@@ -1,6 +1,7 @@
 -- Octets that a number is written in give the number back.
 use Rattle.std.proofs.Common.{◌≡◌, ℕ, ◌+◌, ◌*◌, ◌/◌, ◌%◌, ◌^◌, ◌<◌, List, [], ◌∷◌, length, Some, refl, ap, ◌∙◌, arith}
-use native.Mathlib.Nat.{div-div-eq-div-mul}
+use Rattle.std.proofs.lemmas.Option.{none-some}
+use Rattle.std.proofs.Math.Nat.{div-div-eq-div-mul}
 use Rattle.numbers.specs.Octets.{Coding, two, four, number_of_two, number_of_four}
 
 -- What makes a coding of numbers below a bound sound.
@@ -17,10 +18,10 @@ two_sound = record { wide = λ n. refl; back = λ n h. ap Some (together n h); o
     together n h = omega arith
 
     only : (xs : List ℕ) (n : ℕ) → number_of_two xs ≡ Some n → length xs ≡ 2
-    only [] n e = absurd (let z : ◌≡◌ {A = ℕ} 0 1 = cc in omega arith)
-    only (a ∷ []) n e = absurd (let z : ◌≡◌ {A = ℕ} 0 1 = cc in omega arith)
+    only [] n e = absurd (none-some n e)
+    only (a ∷ []) n e = absurd (none-some n e)
     only (a ∷ b ∷ []) n e = refl
-    only (a ∷ b ∷ c ∷ more) n e = absurd (let z : ◌≡◌ {A = ℕ} 0 1 = cc in omega arith)
+    only (a ∷ b ∷ c ∷ more) n e = absurd (none-some n e)
 
 -- ---- four octets
 digit : (n : ℕ) → n ≡ n / 256 * 256 + n % 256
@@ -44,9 +45,9 @@ pub four_sound : Sound four (2 ^ 32)
 four_sound = record { wide = λ n. refl; back = λ n h. ap Some (four_together n h); only = only }
   where
     only : (xs : List ℕ) (n : ℕ) → number_of_four xs ≡ Some n → length xs ≡ 4
-    only [] n e = absurd (let z : ◌≡◌ {A = ℕ} 0 1 = cc in omega arith)
-    only (a ∷ []) n e = absurd (let z : ◌≡◌ {A = ℕ} 0 1 = cc in omega arith)
-    only (a ∷ b ∷ []) n e = absurd (let z : ◌≡◌ {A = ℕ} 0 1 = cc in omega arith)
-    only (a ∷ b ∷ c ∷ []) n e = absurd (let z : ◌≡◌ {A = ℕ} 0 1 = cc in omega arith)
+    only [] n e = absurd (none-some n e)
+    only (a ∷ []) n e = absurd (none-some n e)
+    only (a ∷ b ∷ []) n e = absurd (none-some n e)
+    only (a ∷ b ∷ c ∷ []) n e = absurd (none-some n e)
     only (a ∷ b ∷ c ∷ d ∷ []) n e = refl
-    only (a ∷ b ∷ c ∷ d ∷ f ∷ more) n e = absurd (let z : ◌≡◌ {A = ℕ} 0 1 = cc in omega arith)
+    only (a ∷ b ∷ c ∷ d ∷ f ∷ more) n e = absurd (none-some n e)

@@ -1,12 +1,12 @@
 -- The order of floats is that of their ranks.
-use Rattle.std.proofs.Common.{◌≡◌, ℕ, zero, suc, ◌*◌, ◌^◌, ◌<◌, Bool, true, false, not, ◌||◌, T, eqb, ltb, ℤ, pos, sym, refl, ap, ◌∙◌, subst, true≢false, mul-pos, arith, eqb→eq, pow_pos, tests}
-use mathlib.Core.Bool.{beq}
-use native.Mathlib.Nat.{eq_of_mul-eq-mul_right}
-use lib.Signed.{le_z, lt_z, le_z_yes}
-use lib.Ieee.{Float, nan, inf, fin, binary32, up, down, lt, le, eq, below, level, of_bits, fits}
-use lib.Ieee.Fits.{down_pos, and_l}
-use lib.Ieee.Exact.{HasValue}
-use lib.Ieee.Scale.{finite}
+use Rattle.std.proofs.Common.{◌≡◌, ℕ, ◌*◌, ◌^◌, ◌<◌, Bool, true, false, not, ◌||◌, T, eqb, ltb, ℤ, pos, sym, refl, ap, ◌∙◌, subst, true≢false, mul-pos, arith, eqb→eq, pow_pos, tests}
+use Rattle.std.proofs.Math.Bool.{beq}
+use Rattle.std.proofs.Math.Nat.{eq_of_mul-eq-mul_right}
+use Rattle.std.specs.Int.Signed.{le_z, lt_z, le_z_yes}
+use Rattle.std.specs.Float.Ieee.{Float, nan, inf, fin, binary32, up, down, lt, le, eq, below, level, of_bits, fits}
+use Rattle.std.specs.Float.Ieee.Fits.{down_pos, and_l}
+use Rattle.std.specs.Float.Ieee.Exact.{HasValue}
+use Rattle.std.specs.Float.Ieee.Scale.{finite}
 use Rattle.std.proofs.lemmas.Int.{ints}
 use Rattle.numbers.specs.Floats.{negative, magnitude, signed, rank, proper, zero_float}
 use Rattle.numbers.proofs.Fractions.{equal_tests, same_order}
@@ -16,15 +16,7 @@ use Rattle.numbers.proofs.Worth.{proper_parts, worth, worth_is, rank_from_worth}
 
 -- ---- signed numbers, as floats are compared
 le_signed : (s t : Bool) (u w : ℕ) → (below s u t w || level s u t w) ≡ le_z (signed s u) (signed t w)
-le_signed false false u w = grind (arith, tests)
-le_signed false true u zero = grind (arith, tests)
-le_signed false true u (suc w) = grind (arith, tests)
-le_signed true false zero w = grind (arith, tests)
-le_signed true false (suc u) w = grind (arith, tests)
-le_signed true true zero zero = grind (arith, tests)
-le_signed true true zero (suc w) = grind (arith, tests)
-le_signed true true (suc u) zero = grind (arith, tests)
-le_signed true true (suc u) (suc w) = grind (arith, tests)
+le_signed s t u w = grind (arith, tests, ints)
 
 -- the same of fractions a / c and b / c that are u / d and w / d
 module _ (a b u w c d : ℕ) (C : 0 < c) (D : 0 < d) (p : a * d ≡ u * c) (q : b * d ≡ w * c) where
@@ -33,10 +25,7 @@ module _ (a b u w c d : ℕ) (C : 0 < c) (D : 0 < d) (p : a * d ≡ u * c) (q : 
       go s t (same_order a b u w c d C D p q) (same_order b a w u c d C D q p) (same_order 0 a 0 u c d C D (omega arith) p) (same_order 0 b 0 w c d C D (omega arith) q)
     where
       go : (s t : Bool) → ltb a b ≡ ltb u w → ltb b a ≡ ltb w u → ltb 0 a ≡ ltb 0 u → ltb 0 b ≡ ltb 0 w → (below s a t b || level s a t b) ≡ (below s u t w || level s u t w)
-      go false false e f g h = grind (arith, tests)
-      go false true e f g h = grind (arith, tests)
-      go true false e f g h = grind (arith, tests)
-      go true true e f g h = grind (arith, tests)
+      go s t e f g h = grind (arith, tests)
 
 -- ---- floats
 module _ (s t : Bool) (u w : ℕ) where
@@ -64,10 +53,7 @@ module _ (x y : Float) (h : proper x ≡ true) (k : proper y ≡ true) where
 
 -- of finite floats one is below the other where the other is not at most the one
 below_is : (s t : Bool) (a b : ℕ) → below s a t b ≡ not (below t b s a || level t b s a)
-below_is false false a b = grind (arith, tests)
-below_is false true a b = grind (arith, tests)
-below_is true false a b = grind (arith, tests)
-below_is true true a b = grind (arith, tests)
+below_is s t a b = grind (arith, tests)
 
 lt_is : (x y : Float) → finite x ≡ true → finite y ≡ true → lt x y ≡ not (le y x)
 unfolding lt le

@@ -1,8 +1,8 @@
 -- The values of patterns: every pattern below infinity's has one, and no other has.
 use Rattle.std.proofs.Common.{◌≡◌, ℕ, ◌*◌, ◌%◌, ◌^◌, ◌<◌, ◌≤◌, Bool, true, false, not, ◌&&◌, T, eqb, pos, negsuc, sym, refl, ap, ◌∙◌, subst, true≢false, arith, le-ltb}
-use lib.Ieee.{Float, nan, inf, fin, binary32, eq, neg, is_nan, of_int, to_bits, of_bits, fits, nan_bits}
-use lib.Ieee.Bits.{of_bits-to_bits, of_bits-fits, nan_bits_above}
-use lib.Ieee.Scale.{finite}
+use Rattle.std.specs.Float.Ieee.{Float, nan, inf, fin, binary32, eq, neg, is_nan, of_int, to_bits, of_bits, fits, nan_bits}
+use Rattle.std.specs.Float.Ieee.Bits.{of_bits-to_bits, of_bits-fits, nan_bits_above}
+use Rattle.std.specs.Float.Ieee.Scale.{finite}
 use Rattle.numbers.specs.Floats.{proper, plain}
 use Rattle.numbers.proofs.Middle.{plain_proper, plain_same}
 use Rattle.numbers.proofs.Units.{pattern_finite, pattern_not_finite}

@@ -1,13 +1,13 @@
 -- Rounding keeps the order. Floats are counted in units of 2^-149, the smallest float.
 use Rattle.std.proofs.Common.{◌≡◌, ℕ, ◌+◌, ◌-◌, ◌*◌, ◌/◌, ◌^◌, ◌<◌, ◌≤◌, false, sym, refl, subst, inl, inr, le_trans, le_of_eq, lt_of_le_of_lt, mul-le-mul_right, eq-zero-or-pos, eq-or-lt_of_le, mul-pos, le-div_iff_mul-le, arith, lit<, pow_pos, pow_mono, pow-add}
-use native.Mathlib.Nat.{div-div-eq-div-mul}
-use lib.Ieee.{binary32, size, round}
-use lib.Ieee.Digits.{size-lt, size_reaches}
-use lib.Ieee.Exact.{HasValue}
-use lib.Ieee.Fits.{kept-lt, nearest-le}
-use lib.Ieee.Nearest.{nearest-ge, div_mono, closest, closest_mono}
-use lib.Ieee.Order.{kept, drop}
-use lib.Ieee.Scale.{grid, round_val}
+use Rattle.std.proofs.Math.Nat.{div-div-eq-div-mul}
+use Rattle.std.specs.Float.Ieee.{binary32, size, round}
+use Rattle.std.specs.Float.Ieee.Digits.{size-lt, size_reaches}
+use Rattle.std.specs.Float.Ieee.Exact.{HasValue}
+use Rattle.std.specs.Float.Ieee.Fits.{kept-lt, nearest-le}
+use Rattle.std.specs.Float.Ieee.Nearest.{nearest-ge, div_mono, closest, closest_mono}
+use Rattle.std.specs.Float.Ieee.Order.{kept, drop}
+use Rattle.std.specs.Float.Ieee.Scale.{grid, round_val}
 
 -- ---- of n / den, p digits are kept: as a number they are at most 2^p, and at least 2^(p - 1) where digits are dropped
 module _ (p n den : ℕ) where

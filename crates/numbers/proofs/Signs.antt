@@ -1,27 +1,14 @@
 -- Whole numbers by a sign and a size.
-use Rattle.std.proofs.Common.{◌≡◌, ℕ, zero, suc, ◌+◌, ◌-◌, ◌<◌, ◌≤◌, Bool, true, false, cond, T, ltb, ℤ, pos, negsuc, ◌+ℤ◌, neg_ℤ, nat_abs, ◌≤ℤ◌, sym, refl, ap, ◌∙◌, subst, arith, ltb→lt}
-use lib.IntN.{sub_ℕ}
-use lib.Signed.{le_z, le_z_yes}
+use Rattle.std.proofs.Common.{◌≡◌, ℕ, suc, ◌+◌, ◌≤◌, Bool, true, false, T, ℤ, pos, negsuc, ◌+ℤ◌, neg_ℤ, nat_abs, ◌≤ℤ◌, sym, subst, arith}
+use Rattle.std.specs.Int.Signed.{le_z, le_z_yes}
 use Rattle.std.proofs.lemmas.Int.{ints}
 use Rattle.numbers.specs.Floats.{signed}
 
 pub signed_size : (s : Bool) (n : ℕ) → nat_abs (signed s n) ≡ n
-signed_size false n = refl
-signed_size true zero = refl
-signed_size true (suc n) = refl
-
-gap_size : (a b : ℕ) → nat_abs (sub_ℕ a b) ≤ a + b
-gap_size a b = go (ltb a b) (ltb→lt a b)
-  where
-    go : (t : Bool) → (T t → a < b) → nat_abs (cond t (negsuc (b - suc a)) (pos (a - b))) ≤ a + b
-    go true h = omega (arith, h tt)
-    go false h = omega arith
+signed_size s n = grind (arith, ints)
 
 pub sum_size : (y z : ℤ) → nat_abs (y +ℤ z) ≤ nat_abs y + nat_abs z
-sum_size (pos a) (pos b) = omega arith
-sum_size (pos a) (negsuc b) = gap_size a (suc b)
-sum_size (negsuc a) (pos b) = omega (arith, gap_size b (suc a))
-sum_size (negsuc a) (negsuc b) = omega arith
+sum_size y z = grind (arith, ints)
 
 -- f on both sides of zero
 abbrev pub mirrored : (ℕ → ℕ) → ℤ → ℤ
@@ -29,15 +16,10 @@ mirrored f (pos n) = pos (f n)
 mirrored f (negsuc n) = neg_ℤ (pos (f (suc n)))
 
 pub mirrored_signed : (f : ℕ → ℕ) (s : Bool) (n : ℕ) → f 0 ≡ 0 → mirrored f (signed s n) ≡ signed s (f n)
-mirrored_signed f false n e = refl
-mirrored_signed f true zero e = ap pos e ∙ ap (λ (k : ℕ). neg_ℤ (pos k)) (sym e)
-mirrored_signed f true (suc n) e = refl
+mirrored_signed f s n e = grind (arith, ints, e)
 
 pub mirrored_order : (f : ℕ → ℕ) → ((a b : ℕ) → a ≤ b → f a ≤ f b) → (y z : ℤ) → y ≤ℤ z → mirrored f y ≤ℤ mirrored f z
-mirrored_order f m (pos a) (pos b) h = let k : a ≤ b = omega (arith, ints) in omega (arith, ints, m a b k)
-mirrored_order f m (pos a) (negsuc b) h = absurd h.le
-mirrored_order f m (negsuc a) (pos b) h = omega (arith, ints)
-mirrored_order f m (negsuc a) (negsuc b) h = let k : suc b ≤ suc a = omega (arith, ints) in omega (arith, ints, m (suc b) (suc a) k)
+mirrored_order f m y z h = grind (arith, ints, m)
 
 pub mirrored_back : (f : ℕ → ℕ) → ((a b : ℕ) → f a ≤ f b → a ≤ b) → (y z : ℤ) → mirrored f y ≤ℤ mirrored f z → y ≤ℤ z
 mirrored_back f m (pos a) (pos b) h = let k : f a ≤ f b = omega (arith, ints) in omega (arith, ints, m a b k)

@@ -1,9 +1,9 @@
 -- A sum of floats is the float nearest to the sum of their units of 2^-149.
 use Rattle.std.proofs.Common.{◌≡◌, ℕ, zero, suc, ◌+◌, ◌-◌, ◌*◌, ◌^◌, ◌<◌, Bool, true, false, cond, T, ltb, ℤ, pos, negsuc, ◌+ℤ◌, sym, refl, ap, ◌∙◌, zero-le, mul-pos, arith, ltb→lt, pow_pos, ltb-false, ltb-true, le-ltb, lt-ltb}
-use lib.IntN.{sub_ℕ}
-use lib.Ieee.{Float, nan, inf, fin, binary32, up, down, round, sum, add}
-use lib.Ieee.Fits.{down_pos}
-use lib.Ieee.Exact.{HasValue}
+use Rattle.std.proofs.Math.IntN.{sub_ℕ}
+use Rattle.std.specs.Float.Ieee.{Float, nan, inf, fin, binary32, up, down, round, sum, add}
+use Rattle.std.specs.Float.Ieee.Fits.{down_pos}
+use Rattle.std.specs.Float.Ieee.Exact.{HasValue}
 use Rattle.numbers.specs.Floats.{signed}
 use Rattle.numbers.proofs.Fractions.{sum_same}
 

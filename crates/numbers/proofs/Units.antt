@@ -1,9 +1,9 @@
 -- How many units of 2^-149 a pattern of 31 bits below infinity's stands for.
 use Rattle.std.proofs.Common.{◌≡◌, ℕ, zero, suc, ◌+◌, ◌-◌, ◌*◌, ◌/◌, ◌%◌, ◌^◌, ◌<◌, ◌≤◌, Bool, true, false, cond, T, eqb, leb, sym, refl, ap, ◌∙◌, subst, inl, inr, true≢false, le_trans, le_of_eq, lt_of_lt_of_le, mul-le-mul_right, eq-zero-or-pos, eq-or-lt_of_le, mul-le-mul_left, mul-lt-mul_of_pos_right, mul-one, arith, pow_pos, pow_mono, pow-add, ne_eqb}
-use lib.Ieee.{Float, nan, inf, binary32, odd, of_fields, of_bits, to_bits, fits}
-use lib.Ieee.Bits.{of_bits-to_bits}
-use lib.Ieee.Exact.{HasValue, odd_sign}
-use lib.Ieee.Scale.{finite}
+use Rattle.std.specs.Float.Ieee.{Float, nan, inf, binary32, odd, of_fields, of_bits, to_bits, fits}
+use Rattle.std.specs.Float.Ieee.Bits.{of_bits-to_bits}
+use Rattle.std.specs.Float.Ieee.Exact.{HasValue, odd_sign}
+use Rattle.std.specs.Float.Ieee.Scale.{finite}
 use Rattle.numbers.specs.Floats.{negative, magnitude}
 use Rattle.numbers.proofs.Fractions.{value_finite}
 use Rattle.numbers.proofs.Rounding.{largest}

@@ -1,11 +1,11 @@
 -- What a value is worth in units of 2^-149, against its rank; and the floats nearest to numbers of units.
 use Rattle.std.proofs.Common.{◌≡◌, ℕ, suc, ◌%◌, ◌^◌, ◌<◌, ◌≤◌, Bool, true, false, not, ◌&&◌, T, eqb, leb, ℤ, pos, negsuc, nat_abs, ◌≤ℤ◌, sym, refl, ap, ◌∙◌, subst, true≢false, arith, eqb→eq, T_not}
-use lib.Dec.{not_T}
-use lib.Ieee.{Float, binary32, round, to_bits, fits}
-use lib.Ieee.Fits.{round-fits, and_i, and_l, and_r, eq→eqb}
-use lib.Ieee.Bits.{is_true}
-use lib.Ieee.Exact.{HasValue}
-use lib.Ieee.Scale.{finite}
+use Rattle.std.proofs.Math.Dec.{not_T}
+use Rattle.std.specs.Float.Ieee.{Float, binary32, round, to_bits, fits}
+use Rattle.std.specs.Float.Ieee.Fits.{round-fits, and_i, and_l, and_r, eq→eqb}
+use Rattle.std.specs.Float.Ieee.Bits.{is_true}
+use Rattle.std.specs.Float.Ieee.Exact.{HasValue}
+use Rattle.std.specs.Float.Ieee.Scale.{finite}
 use Rattle.numbers.specs.Floats.{negative, magnitude, signed, rank, proper}
 use Rattle.numbers.proofs.Fractions.{value_finite, value_unique, neg_value, opposite_round}
 use Rattle.numbers.proofs.Rounding.{rounded, rounded_order, rounded_pos, round_value, reach}

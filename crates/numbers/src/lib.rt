@@ -6,23 +6,18 @@ ghost use Rattle.numbers.specs.Octets as Octets;
 ghost use Rattle.std.specs.Prelude.{◌≡◌};
 
 // The number that two octets write, the high octet first; none where they are not two.
+// This and the next are two: u16 and u32 have a `from_be_bytes` each, and both functions are public.
 pub fn from_two(octets: &[u8]) -> Option<u16>
     ensures { result ≡ Octets.number_of_two octets.now }
 {
-    if octets.len() != 2 {
-        return None;
-    }
-    Some(u16::from_be_bytes([octets[0], octets[1]]))
+    octets.try_into().ok().map(u16::from_be_bytes)
 }
 
 // The number that four octets write.
 pub fn from_four(octets: &[u8]) -> Option<u32>
     ensures { result ≡ Octets.number_of_four octets.now }
 {
-    if octets.len() != 4 {
-        return None;
-    }
-    Some(u32::from_be_bytes([octets[0], octets[1], octets[2], octets[3]]))
+    octets.try_into().ok().map(u32::from_be_bytes)
 }
 
 // -0 is taken as +0.
@@ -32,6 +27,8 @@ pub fn plain(x: f32) -> f32
     if x == 0.0 { 0.0 } else { x }
 }
 
+// The next three compare by `<=`, and their contracts say what they answer at what is no number: `f32::min`, `max` and `clamp`
+// differ at NaN, and `clamp` asks that low <= high.
 pub fn lower_of(x: f32, y: f32) -> f32
     ensures { result ≡ Floats.lower_of x y }
 {
@@ -48,11 +45,7 @@ pub fn higher_of(x: f32, y: f32) -> f32
 pub fn between(x: f32, low: f32, high: f32) -> f32
     ensures { result ≡ Floats.between x low high }
 {
-    if low <= x {
-        if x <= high { x } else { high }
-    } else {
-        low
-    }
+    if low <= x { lower_of(x, high) } else { low }
 }
 
 // Up to 65,535 steps of 2^-10 are no rounded distance.

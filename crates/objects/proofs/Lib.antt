@@ -1,2 +1,1 @@
-mod Reached
 pub mod Showing

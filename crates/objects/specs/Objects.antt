@@ -18,13 +18,18 @@ abbrev pub from_to : ℕ → ℕ → ℕ → Bool
 from_to first last n = nat_le first n && nat_le n last
 
 -- the channel that an index belongs to: 60 and 61 are channel 1's, 62 and 63 channel 2's,
--- 4000 + 2(k-3) and the next channel k's, for k from 3 to 8; 0 where it belongs to none
-abbrev pub channel_of : ℕ → ℕ
-channel_of i = cond (from_to 60 63 i) ((i - 58) / 2) (cond (from_to 0x4000 0x400b i) ((i - 0x3ffa) / 2) 0)
+-- 4000 + 2(k-3) and the next channel k's, for k from 3 to 8; every other index belongs to none
+abbrev pub channel_of : ℕ → Option ℕ
+channel_of i = cond (from_to 60 63 i) (Some ((i - 58) / 2)) (cond (from_to 0x4000 0x400b i) (Some ((i - 0x3ffa) / 2)) None)
 
 -- a channel's first index is its setpoints, the next its configuration
-abbrev of_channel : ℕ → ℕ → Object
+abbrev pub of_channel : ℕ → ℕ → Object
 of_channel k i = cond (i % 2 == 0) (Setpoints k) (Configuration k)
+
+-- the object of an index of a channel that is present
+abbrev pub channel_object : {V : Type 0} → Table V → ℕ → Option ℕ → Option Object
+channel_object t i None = None
+channel_object t i (Some k) = cond (has_channel t k) (Some (of_channel k i)) None
 
 -- 2 SystemCommand, 58 TeachSelect, 59 TeachResult, then the channels that are present
 abbrev pub object_at : {V : Type 0} → Table V → ℕ → Option Object
@@ -32,7 +37,7 @@ object_at t i =
     cond (i == 2) (Some SystemCommand)
     (cond (i == 58) (Some TeachSelect)
     (cond (i == 59) (Some TeachResult)
-    (cond (has_channel t (channel_of i)) (Some (of_channel (channel_of i) i)) None)))
+    (channel_object t i (channel_of i))))
 
 -- subindex 0 is the whole object; setpoints have the parts 1 and 2, the configuration 1, 2 and 3, the others none
 abbrev pub parts : Object → ℕ

@@ -2,8 +2,8 @@
 ghost use Rattle.isdu.specs.Views.{asks};
 ghost use Rattle.isdu.specs.declared.Direction.TheVariants.{Read};
 ghost use Rattle.objects.specs.Objects.{access_checked, allows, channel_of, object_at, object_checked, parts as parts_of, place_of, write_checked, written_length};
-ghost use Rattle.objects.specs.Reads.{Readable};
-ghost use Rattle.std.specs.Prelude.{◌≡◌, ◌≤◌, length, IfOk};
+ghost use Rattle.objects.specs.Reads.{HasRow, Readable};
+ghost use Rattle.std.specs.Prelude.{◌≡◌, ◌≤◌, IfOk, IfSome};
 
 use channels::table::Table;
 use faults::{Denial, Fault, Place};
@@ -20,31 +20,37 @@ pub enum Object {
     Configuration(u8),
 }
 
-// The channel that an index belongs to, or 0.
-fn channel_of(index: u16) -> u8
+// The channel that an index belongs to, if any.
+fn channel_of(index: u16) -> Option<u8>
     ensures { result ≡ channel_of index }
 {
     match index {
-        60..=63 => ((index - 58) / 2) as u8,
-        0x4000..=0x400b => ((index - 0x3ffa) / 2) as u8,
-        _ => 0,
+        60..=63 => Some(((index - 58) / 2) as u8),
+        0x4000..=0x400b => Some(((index - 0x3ffa) / 2) as u8),
+        _ => None,
     }
 }
 
-// The object at an index, if there is one.
+// The object at an index, if there is one. The channel of an object that is there has its row.
 fn find_object<K: Kind>(table: &Table<K>, index: u16) -> Option<Object>
     ensures object { result ≡ object_at table.now index }
-    ensures eight { length table.now.rows ≡ 8 }
+    ensures row { IfSome result (HasRow table.now) }
 {
-    let channel = channel_of(index);
-    let present = table.has(channel);
     match index {
         2 => Some(Object::SystemCommand),
         58 => Some(Object::TeachSelect),
         59 => Some(Object::TeachResult),
-        _ if !present => None,
-        _ if index % 2 == 0 => Some(Object::Setpoints(channel)),
-        _ => Some(Object::Configuration(channel)),
+        _ => {
+            let channel = channel_of(index)?;
+            if !table.has(channel) {
+                return None;
+            }
+            if index % 2 == 0 {
+                Some(Object::Setpoints(channel))
+            } else {
+                Some(Object::Configuration(channel))
+            }
+        }
     }
 }
 
@@ -74,23 +80,17 @@ impl Object {
         requires { width ≤ 4 }
         ensures { result ≡ written_length width self subindex }
     {
-        match self {
-            Object::SystemCommand | Object::TeachSelect | Object::TeachResult => 1,
-            Object::Setpoints(_) => { if subindex == 0 { 2 * width } else { width } }
-            Object::Configuration(_) => {
-                if subindex == 0 {
-                    4
-                } else if subindex == 3 {
-                    2
-                } else {
-                    1
-                }
-            }
+        match (self, subindex) {
+            (Object::Setpoints(_), 0) => 2 * width,
+            (Object::Setpoints(_), _) => width,
+            (Object::Configuration(_), 0) => 4,
+            (Object::Configuration(_), 3) => 2,
+            _ => 1,
         }
     }
 }
 
-// The place of the object that a request concerns.
+// The place of the object that a request concerns. No `From` in `isdu`: frames know nothing of the places of faults.
 pub fn place(request: &Request) -> Place
     ensures { result ≡ place_of (asks request.now) }
 {
@@ -138,6 +138,7 @@ pub fn access<K: Kind>(table: &Table<K>, keypad: bool, request: &Request) -> Res
     ensures object { result ≡ access_checked K.meaning table.now keypad (asks request.now) }
     ensures readable { IfOk result (λ o. request.now.direction ≡ Read → Readable table.now o) }
 {
+    // No `ok_or_else`: it takes as many lines, and what its closure answers has to be proved by hand.
     match find_object(table, request.index) {
         Some(object) => check_object::<K>(request, object, keypad),
         None => Err(Fault::at(Denial::NoIndex, place(request))),

@@ -7,7 +7,8 @@ use channels::row::Row;
 use kinds::kind::Kind;
 use octets::put;
 
-// Two values, one behind the other. Without room for both nothing is written.
+// Two values, one behind the other. Room is tested first, and the buffer not split by what each needs: without room for both
+// nothing is written.
 fn write_both<K: Kind>(a: K, b: K, out: &mut [u8]) -> Option<usize>
     ensures answer { result ≡ fitting (K.meaning.octets a ++ K.meaning.octets b) out.old }
     ensures buffer { out.new ≡ placed (K.meaning.octets a ++ K.meaning.octets b) out.old }
@@ -38,8 +39,7 @@ pub fn read_configuration<K: Kind>(row: Row<K>, subindex: u8, out: &mut [u8]) ->
     ensures answer { result ≡ fitting (configuration_read subindex row) out.old }
     ensures buffer { out.new ≡ placed (configuration_read subindex row) out.old }
 {
-    let high = (row.hysteresis / 256) as u8;
-    let low = (row.hysteresis % 256) as u8;
+    let [high, low] = row.hysteresis.to_be_bytes();
     match subindex {
         0 => put(&[row.logic, row.mode, high, low], out),
         1 => put(&[row.logic], out),

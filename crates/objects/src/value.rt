@@ -1,7 +1,9 @@
-// Values of a write: what they are checked for, and the row that they give.
+// Values of a write: what they are checked for, and the row that they give. Place and octets are handed in side by side: a part
+// of a write has a place of its own, and a write from the keypad has none.
 ghost use Rattle.objects.specs.Writes.{code_checked, configuration_written, part as part_of, setpoint_checked, setpoints_written, single as single_octet, whole_configuration, whole_setpoints};
 ghost use Rattle.std.specs.Prelude.{◌≡◌, ◌+◌, ◌*◌, take, drop};
 
+use channels::range::Range;
 use channels::row::Row;
 use faults::{Denial, Fault, Place};
 use kinds::kind::Kind;
@@ -20,10 +22,7 @@ pub fn single(octets: &[u8]) -> Option<u8>
 fn part(place: Place, subindex: u8) -> Place
     ensures { result ≡ part_of place subindex }
 {
-    Place {
-        index: place.index,
-        subindex,
-    }
+    Place { subindex, ..place }
 }
 
 fn check_code(code: u8, last: u8, place: Place) -> Result<u8, Fault>
@@ -36,16 +35,14 @@ fn check_code(code: u8, last: u8, place: Place) -> Result<u8, Fault>
 }
 
 // A setpoint within the range.
-pub fn check_setpoint<K: Kind>(octets: &[u8], low: K, high: K, place: Place) -> Result<K, Fault>
-    ensures { result ≡ setpoint_checked K.meaning low high place octets.now }
+pub fn check_setpoint<K: Kind>(octets: &[u8], range: Range<K>, place: Place) -> Result<K, Fault>
+    ensures { result ≡ setpoint_checked K.meaning range.low range.high place octets.now }
 {
-    let Some(v) = K::read(octets) else {
-        return Err(Fault::at(Denial::NoValue, place));
-    };
-    if high.is_under(v) {
+    let v = K::read(octets).ok_or(Fault::at(Denial::NoValue, place))?;
+    if range.high.is_under(v) {
         return Err(Fault::at(Denial::AboveRange, place));
     }
-    if v.is_under(low) {
+    if v.is_under(range.low) {
         return Err(Fault::at(Denial::BelowRange, place));
     }
     Ok(v)
@@ -56,24 +53,20 @@ fn halves(octets: &[u8], width: usize) -> (&[u8], &[u8])
     ensures first { result.0.now ≡ take width octets.now }
     ensures second { result.1.now ≡ drop width octets.now }
 {
-    if width < octets.len() {
-        return octets.split_at(width);
-    }
-    (octets, &[])
+    octets.split_at_checked(width).unwrap_or((octets, &[]))
 }
 
 fn both_setpoints<K: Kind>(
     mut row: Row<K>,
     octets: &[u8],
-    low: K,
-    high: K,
+    range: Range<K>,
     place: Place,
 ) -> Result<Row<K>, Fault>
-    ensures { result ≡ whole_setpoints K.meaning low high place row octets.now }
+    ensures { result ≡ whole_setpoints K.meaning range.low range.high place row octets.now }
 {
     let (first, second) = halves(octets, K::width());
-    row.sp1 = check_setpoint(first, low, high, part(place, 1))?;
-    row.sp2 = check_setpoint(second, low, high, part(place, 2))?;
+    row.sp1 = check_setpoint(first, range, part(place, 1))?;
+    row.sp2 = check_setpoint(second, range, part(place, 2))?;
     Ok(row)
 }
 
@@ -81,20 +74,19 @@ fn both_setpoints<K: Kind>(
 pub fn write_setpoints<K: Kind>(
     mut row: Row<K>,
     octets: &[u8],
-    low: K,
-    high: K,
+    range: Range<K>,
     place: Place,
 ) -> Result<Row<K>, Fault>
-    ensures { result ≡ setpoints_written K.meaning low high place row octets.now }
+    ensures { result ≡ setpoints_written K.meaning range.low range.high place row octets.now }
 {
     match place.subindex {
-        0 => both_setpoints(row, octets, low, high, place),
+        0 => both_setpoints(row, octets, range, place),
         1 => {
-            row.sp1 = check_setpoint(octets, low, high, place)?;
+            row.sp1 = check_setpoint(octets, range, place)?;
             Ok(row)
         }
         _ => {
-            row.sp2 = check_setpoint(octets, low, high, place)?;
+            row.sp2 = check_setpoint(octets, range, place)?;
             Ok(row)
         }
     }
@@ -115,12 +107,6 @@ fn all_codes<K: Kind>(
     Ok(row)
 }
 
-fn number(high: u8, low: u8) -> u16
-    ensures { result ≡ 256 * high + low }
-{
-    256 * u16::from(high) + u16::from(low)
-}
-
 // The row with the configuration that a write brings.
 pub fn write_configuration<K: Kind>(
     mut row: Row<K>,
@@ -130,7 +116,13 @@ pub fn write_configuration<K: Kind>(
     ensures { result ≡ configuration_written place row octets.now }
 {
     match (place.subindex, octets) {
-        (0, [logic, mode, high, low]) => all_codes(row, *logic, *mode, number(*high, *low), place),
+        (0, [logic, mode, high, low]) => all_codes(
+            row,
+            *logic,
+            *mode,
+            u16::from_be_bytes([*high, *low]),
+            place,
+        ),
         (1, [logic]) => {
             row.logic = check_code(*logic, 1, place)?;
             Ok(row)
@@ -140,7 +132,7 @@ pub fn write_configuration<K: Kind>(
             Ok(row)
         }
         (3, [high, low]) => {
-            row.hysteresis = number(*high, *low);
+            row.hysteresis = u16::from_be_bytes([*high, *low]);
             Ok(row)
         }
         _ => Ok(row),

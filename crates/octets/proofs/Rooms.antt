@@ -1,6 +1,6 @@
 -- Octets with room in a buffer, and without.
 use Rattle.std.proofs.Common.{◌≡◌, ℕ, ◌<◌, ◌≤◌, Bool, cond, List, length, Some, None, sym, ap, le-leb}
-use borrow.Author.Tests.{lt-leb}
+use Rattle.std.proofs.lemmas.Bool.{lt-leb}
 use Rattle.octets.specs.Buffers.{over, fitting, placed}
 
 module _ (octets buffer : List ℕ) where

@@ -10,9 +10,7 @@ pub fn put(octets: &[u8], out: &mut [u8]) -> Option<usize>
     ensures buffer { out.new ≡ placed octets.now out.old }
 {
     let n = octets.len();
-    if n > out.len() {
-        return None;
-    }
-    out[0..n].copy_from_slice(octets);
+    let (front, _) = out.split_at_mut_checked(n)?;
+    front.copy_from_slice(octets);
     Some(n)
 }

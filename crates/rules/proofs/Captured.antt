@@ -17,13 +17,14 @@ use Rattle.teach.specs.declared.command.Teachpoint.{Teachpoint}
 use Rattle.teach.specs.declared.command.Teachpoint.TheVariants.{Tp1, Tp2}
 use Rattle.teach.specs.declared.machine.Change.TheVariants.{Keep, Set}
 use Rattle.teach.specs.declared.machine.Flags.{Flags}
-use Rattle.teach.specs.declared.machine.Points.{Points}
+use Rattle.teach.specs.declared.machine.Teachpoints.{Teachpoints}
 use Rattle.teach.specs.declared.machine.Verdict.{Verdict}
 use Rattle.teach.specs.declared.machine.Verdict.TheVariants.{Stores}
 use Rattle.teach.specs.declared.terms.Terms.{Terms}
 use Rattle.teach.specs.Evaluation.{evaluate_dynamic, evaluate_single}
 use Rattle.teach.specs.Flags.{both_set}
-use Rattle.teach.specs.Machine.{same_setpoint, with_point}
+use Rattle.teach.specs.Machine.{same_setpoint}
+use Rattle.teach.specs.Teachpoints.{with_teachpoint}
 use Rattle.rules.specs.Lessons.{Goes, Stage, Values, idle, busy_single, busy_two, wait_two, dyn_start, wait_dyn, ends, evaluated, fed, full, goes, highest, is_idle, lowest, row, values}
 use Rattle.rules.specs.Calls.{Call, Act, samples, shows, selects, commands, writes, opens, closes, restarts}
 use Rattle.rules.specs.Rules.{Fixed, Held, after, checked, first_day, heard, next, next_by, row_in, setpoint_part, stored_parts, with_parts}
@@ -85,7 +86,7 @@ module _ {V : Type 0} (m : Meaning V) (t : Terms) where
   single_in false whole a sp d vs v h = ⊎_elim (λ e. inl (e, refl)) inr h
   single_in false (point p) a sp d vs v h = absurd h
 
-  two_in : (b : Bool) (x : Purpose) (a : V) (sp : Setpoint) (tp : Teachpoint) (vs : List V) (p : Points (Values V)) (v : V) → In x a (cond b (goes (wait_two sp (with_point p tp (values v vs))) (Set sp tp)) (goes (busy_two sp tp (v ∷ vs) p) Keep)).stage → ((a ≡ v) × (capturing (busy_two sp tp vs p) ≡ Some x)) ⊎ In x a (busy_two sp tp vs p)
+  two_in : (b : Bool) (x : Purpose) (a : V) (sp : Setpoint) (tp : Teachpoint) (vs : List V) (p : Teachpoints (Option (Values V))) (v : V) → In x a (cond b (goes (wait_two sp (with_teachpoint p tp (Some (values v vs)))) (Set sp tp)) (goes (busy_two sp tp (v ∷ vs) p) Keep)).stage → ((a ≡ v) × (capturing (busy_two sp tp vs p) ≡ Some x)) ⊎ In x a (busy_two sp tp vs p)
   two_in true whole a sp tp vs p v h = absurd h
   two_in false whole a sp tp vs p v h = absurd h
   two_in true (point Tp1) a sp Tp1 vs p v h = ⊎_elim (λ e. inl (e, refl)) inr h
@@ -116,7 +117,7 @@ module _ {V : Type 0} (m : Meaning V) (t : Terms) where
   evaluated_in x a s sp (Some k) None = tt
   evaluated_in x a s sp (Some k) (Some j) = λ h. absurd h
 
-  again_in : (x : Purpose) (a : V) (sp : Setpoint) (p : Points (Values V)) (tp : Teachpoint) → Holds x a (wait_two sp p) (goes (busy_two sp tp [] p) Keep)
+  again_in : (x : Purpose) (a : V) (sp : Setpoint) (p : Teachpoints (Option (Values V))) (tp : Teachpoint) → Holds x a (wait_two sp p) (goes (busy_two sp tp [] p) Keep)
   again_in whole a sp p tp h = absurd h
   again_in (point Tp1) a sp p Tp1 h = absurd h
   again_in (point Tp1) a sp p Tp2 h = (h, refl)
@@ -206,7 +207,7 @@ module _ {V : Type 0} (m : Meaning V) (P : Fixed V) where
   storing_captures idle v sp x e = absurd (never_stores sp x e)
   storing_captures (busy_single y vs) v sp x e = refl
   storing_captures (busy_two y tp vs p) v sp x e =
-      absurd (never_stores sp x (sym (open_either (full m P.terms (v ∷ vs)) (goes (wait_two y (with_point p tp (values v vs))) (Set y tp)) (goes (busy_two y tp (v ∷ vs) p) Keep) refl refl) ∙ e))
+      absurd (never_stores sp x (sym (open_either (full m P.terms (v ∷ vs)) (goes (wait_two y (with_teachpoint p tp (Some (values v vs)))) (Set y tp)) (goes (busy_two y tp (v ∷ vs) p) Keep) refl refl) ∙ e))
   storing_captures (wait_two y p) v sp x e = absurd (never_stores sp x e)
   storing_captures (dyn_start y) v sp x e = refl
   storing_captures (wait_dyn y k) v sp x e = refl

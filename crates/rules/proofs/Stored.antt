@@ -16,7 +16,8 @@ use Rattle.teach.specs.declared.machine.Verdict.TheVariants.{Open, Fails, Stores
 use Rattle.teach.specs.declared.terms.Terms.{Terms}
 use Rattle.teach.specs.Evaluation.{evaluate_dynamic}
 use Rattle.teach.specs.Flags.{both_set}
-use Rattle.teach.specs.Machine.{same_setpoint, with_point}
+use Rattle.teach.specs.Machine.{same_setpoint}
+use Rattle.teach.specs.Teachpoints.{with_teachpoint}
 use Rattle.rules.specs.Lessons.{Goes, Stage, Values, idle, busy_single, busy_two, wait_two, dyn_start, wait_dyn, ends, evaluated, fed, full, goes, highest, lowest, row, teachpoint, values}
 use Rattle.rules.specs.Calls.{Act, samples, shows, selects, commands, writes, opens, closes, restarts}
 use Rattle.rules.specs.Rules.{Fixed, Held, heard}
@@ -83,7 +84,7 @@ module _ {V : Type 0} (m : Meaning V) (l : Lawful V m) (t : Terms) where
   fed_within idle v sp x e = absurd (never_stores sp x e)
   fed_within (busy_single y vs) v sp x e = single_within (full m t (v ∷ vs)) (under m (m.raised (lowest m v vs) t.spread) (highest m v vs)) y v vs sp x e
   fed_within (busy_two y tp vs p) v sp x e =
-      absurd (never_stores sp x (sym (open_either (full m t (v ∷ vs)) (goes (wait_two y (with_point p tp (values v vs))) (Set y tp)) (goes (busy_two y tp (v ∷ vs) p) Keep) refl refl) ∙ e))
+      absurd (never_stores sp x (sym (open_either (full m t (v ∷ vs)) (goes (wait_two y (with_teachpoint p tp (Some (values v vs)))) (Set y tp)) (goes (busy_two y tp (v ∷ vs) p) Keep) refl refl) ∙ e))
   fed_within (wait_two y p) v sp x e = absurd (never_stores sp x e)
   fed_within (dyn_start y) v sp x e = absurd (never_stores sp x e)
   fed_within (wait_dyn y k) v sp x e = absurd (never_stores sp x e)

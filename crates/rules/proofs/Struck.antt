@@ -14,7 +14,7 @@ use Rattle.teach.specs.declared.command.Setpoint.TheVariants.{Sp1, Sp2}
 use Rattle.teach.specs.declared.command.Step.{Step}
 use Rattle.teach.specs.declared.command.Step.TheVariants.{Apply, Single, Point, Start, Stop, Cancel}
 use Rattle.teach.specs.declared.command.Teachpoint.TheVariants.{Tp1, Tp2}
-use Rattle.teach.specs.declared.machine.Captures.{Captures}
+use Rattle.teach.specs.declared.machine.Teachpoints.{Teachpoints}
 use Rattle.teach.specs.declared.machine.Change.{Change}
 use Rattle.teach.specs.declared.machine.Change.TheVariants.{Keep, Clear, Set}
 use Rattle.teach.specs.declared.machine.Flags.{Flags}
@@ -23,7 +23,8 @@ use Rattle.teach.specs.declared.machine.Verdict.TheVariants.{Open, Fails, Stores
 use Rattle.teach.specs.declared.terms.Terms.{Terms}
 use Rattle.teach.specs.Evaluation.{evaluate_dynamic, evaluate_single}
 use Rattle.teach.specs.Flags.{both_set, changed, none_set, of_setpoint}
-use Rattle.teach.specs.Machine.{same_setpoint, with_point}
+use Rattle.teach.specs.Machine.{same_setpoint}
+use Rattle.teach.specs.Teachpoints.{with_teachpoint}
 use Rattle.rules.specs.Lessons.{Goes, Stage, Values, idle, busy_single, busy_two, wait_two, dyn_start, wait_dyn, ends, evaluated, fed, full, goes, highest, is_idle, lowest, row, values}
 use Rattle.rules.specs.Calls.{Part}
 use Rattle.rules.specs.Rules.{Fixed, Held, given, heard, on_row, setpoint_part, stored, stored_parts, taken, with_parts}
@@ -43,11 +44,11 @@ module _ {V : Type 0} where
   setpoint_at (dyn_start sp) = Some sp
   setpoint_at (wait_dyn sp k) = Some sp
 
-abbrev pick : Option Setpoint → Flags → Captures
+abbrev pick : Option Setpoint → Flags → Teachpoints Bool
 pick None f = none_set
 pick (Some sp) f = of_setpoint f sp
 
-abbrev pub flags_for : {V : Type 0} → Stage V → Flags → Captures
+abbrev pub flags_for : {V : Type 0} → Stage V → Flags → Teachpoints Bool
 flags_for s f = pick (setpoint_at s) f
 
 -- a change of flags reads only the flags that it changes
@@ -58,12 +59,12 @@ pick_changed (Some Sp1) (Clear Sp1) f f' e = refl
 pick_changed (Some Sp1) (Clear Sp2) f f' e = e
 pick_changed (Some Sp2) (Clear Sp1) f f' e = e
 pick_changed (Some Sp2) (Clear Sp2) f f' e = refl
-pick_changed (Some Sp1) (Set Sp1 Tp1) f f' e = ap (λ (x : Captures). record { tp1 = true; tp2 = x.tp2 }) e
-pick_changed (Some Sp1) (Set Sp1 Tp2) f f' e = ap (λ (x : Captures). record { tp1 = x.tp1; tp2 = true }) e
+pick_changed (Some Sp1) (Set Sp1 Tp1) f f' e = ap (λ (x : Teachpoints Bool). record { tp1 = true; tp2 = x.tp2 }) e
+pick_changed (Some Sp1) (Set Sp1 Tp2) f f' e = ap (λ (x : Teachpoints Bool). record { tp1 = x.tp1; tp2 = true }) e
 pick_changed (Some Sp1) (Set Sp2 tp) f f' e = e
 pick_changed (Some Sp2) (Set Sp1 tp) f f' e = e
-pick_changed (Some Sp2) (Set Sp2 Tp1) f f' e = ap (λ (x : Captures). record { tp1 = true; tp2 = x.tp2 }) e
-pick_changed (Some Sp2) (Set Sp2 Tp2) f f' e = ap (λ (x : Captures). record { tp1 = x.tp1; tp2 = true }) e
+pick_changed (Some Sp2) (Set Sp2 Tp1) f f' e = ap (λ (x : Teachpoints Bool). record { tp1 = true; tp2 = x.tp2 }) e
+pick_changed (Some Sp2) (Set Sp2 Tp2) f f' e = ap (λ (x : Teachpoints Bool). record { tp1 = x.tp1; tp2 = true }) e
 
 module _ {V : Type 0} where
   -- from s to s': idle, or a teach of the same setpoint
@@ -102,7 +103,7 @@ module _ {V : Type 0} (m : Meaning V) (t : Terms) where
   fed_ends idle v e = refl
   fed_ends (busy_single sp vs) v e = single_ends (full m t (v ∷ vs)) (evaluate_single m t sp (lowest m v vs) (highest m v vs)) (busy_single sp (v ∷ vs)) e
   fed_ends (busy_two sp tp vs p) v e =
-      absurd (not_either (full m t (v ∷ vs)) (goes (wait_two sp (with_point p tp (values v vs))) (Set sp tp)) (goes (busy_two sp tp (v ∷ vs) p) Keep) refl refl e)
+      absurd (not_either (full m t (v ∷ vs)) (goes (wait_two sp (with_teachpoint p tp (Some (values v vs)))) (Set sp tp)) (goes (busy_two sp tp (v ∷ vs) p) Keep) refl refl e)
   fed_ends (wait_two sp p) v e = absurd (false≢true e)
   fed_ends (dyn_start sp) v e = absurd (false≢true e)
   fed_ends (wait_dyn sp k) v e = absurd (false≢true e)
@@ -115,7 +116,7 @@ module _ {V : Type 0} (m : Meaning V) (t : Terms) where
   fed_onward idle v = inl refl
   fed_onward (busy_single sp vs) v = single_onward (full m t (v ∷ vs)) (evaluate_single m t sp (lowest m v vs) (highest m v vs)) sp vs (v ∷ vs)
   fed_onward (busy_two sp tp vs p) v =
-      inr (same_either (full m t (v ∷ vs)) (goes (wait_two sp (with_point p tp (values v vs))) (Set sp tp)) (goes (busy_two sp tp (v ∷ vs) p) Keep) (Some sp) refl refl)
+      inr (same_either (full m t (v ∷ vs)) (goes (wait_two sp (with_teachpoint p tp (Some (values v vs)))) (Set sp tp)) (goes (busy_two sp tp (v ∷ vs) p) Keep) (Some sp) refl refl)
   fed_onward (wait_two sp p) v = inr refl
   fed_onward (dyn_start sp) v = inr refl
   fed_onward (wait_dyn sp k) v = inr refl
@@ -192,7 +193,7 @@ module _ {V : Type 0} (m : Meaning V) (t : Terms) where
   row_same f f' (busy_single sp vs) z c e = refl
   row_same f f' (busy_two sp tp vs p) z c e = refl
   row_same f f' (wait_two sp p) Point c e = refl
-  row_same f f' (wait_two sp p) Apply c e = ap (λ (x : Captures). cond (x.tp1 && x.tp2) (evaluated m t sp p.tp1 p.tp2) None) e
+  row_same f f' (wait_two sp p) Apply c e = ap (λ (x : Teachpoints Bool). cond (x.tp1 && x.tp2) (evaluated m t sp p.tp1 p.tp2) None) e
   row_same f f' (wait_two sp p) Cancel c e = refl
   row_same f f' (wait_two sp p) Single c e = refl
   row_same f f' (wait_two sp p) Start c e = refl

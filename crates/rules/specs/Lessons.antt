@@ -10,13 +10,14 @@ use Rattle.teach.specs.declared.command.Step.TheVariants.{Apply, Single, Point, 
 use Rattle.teach.specs.declared.machine.Change.{Change}
 use Rattle.teach.specs.declared.machine.Change.TheVariants.{Keep, Clear, Set}
 use Rattle.teach.specs.declared.machine.Flags.{Flags}
-use Rattle.teach.specs.declared.machine.Points.{Points}
+use Rattle.teach.specs.declared.machine.Teachpoints.{Teachpoints}
 use Rattle.teach.specs.declared.machine.Verdict.{Verdict}
 use Rattle.teach.specs.declared.machine.Verdict.TheVariants.{Open}
 use Rattle.teach.specs.declared.terms.Terms.{Terms}
 use Rattle.teach.specs.Evaluation.{evaluate_single, evaluate_two, evaluate_dynamic}
 use Rattle.teach.specs.Flags.{both_set, changed, flag_bits, no_flags}
-use Rattle.teach.specs.Machine.{no_points, same_setpoint, with_point}
+use Rattle.teach.specs.Machine.{no_points, same_setpoint}
+use Rattle.teach.specs.Teachpoints.{with_teachpoint}
 use Rattle.teach.specs.Teaching.{failed_by, taught_by}
 
 -- values that were captured, at least one: the latest, and the earlier ones with the latest of them first
@@ -28,8 +29,8 @@ pub record Values (V : Type 0) : Type 0 where
 pub data Stage (V : Type 0) : Type 0 where
   idle : Stage V
   busy_single : Setpoint → List V → Stage V
-  busy_two : Setpoint → Teachpoint → List V → Points (Values V) → Stage V
-  wait_two : Setpoint → Points (Values V) → Stage V
+  busy_two : Setpoint → Teachpoint → List V → Teachpoints (Option (Values V)) → Stage V
+  wait_two : Setpoint → Teachpoints (Option (Values V)) → Stage V
   dyn_start : Setpoint → Stage V
   wait_dyn : Setpoint → Values V → Stage V
 
@@ -93,7 +94,7 @@ module _ {V : Type 0} (m : Meaning V) (t : Terms) where
   fed (busy_single sp vs) v =
       cond (full (v ∷ vs)) (ends (evaluate_single m t sp (lowest m v vs) (highest m v vs))) (goes (busy_single sp (v ∷ vs)) Keep)
   fed (busy_two sp tp vs p) v =
-      cond (full (v ∷ vs)) (goes (wait_two sp (with_point p tp (values v vs))) (Set sp tp)) (goes (busy_two sp tp (v ∷ vs) p) Keep)
+      cond (full (v ∷ vs)) (goes (wait_two sp (with_teachpoint p tp (Some (values v vs)))) (Set sp tp)) (goes (busy_two sp tp (v ∷ vs) p) Keep)
   fed (wait_two sp p) v = goes (wait_two sp p) Keep
   fed (dyn_start sp) v = goes (wait_dyn sp (values v [])) Keep
   fed (wait_dyn sp k) v = goes (wait_dyn sp (values v (k.latest ∷ k.earlier))) Keep

@@ -1,4 +1,4 @@
-mod OneOctet
 mod Reading
+mod Replying
 mod Sizes
 mod Writing

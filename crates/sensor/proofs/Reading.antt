@@ -1,54 +1,46 @@
--- What a read shows has at most eight octets, so it fits the buffer that it is gathered in.
-use Rattle.std.proofs.Common.{◌≡◌, ℕ, ◌-◌, ◌≤◌, min, Bool, true, false, cond, eqb, List, ◌++◌, length, take, drop, Some, None, Option, unwrap_or, sym, ap, ◌∙◌, inl, inr, arith, length-append}
+-- What a read shows has from one octet to eight, so it fits the buffer that it is gathered in.
+use Rattle.std.proofs.Common.{◌≡◌, ℕ, ◌≤◌, true, List, length, length-append, take, drop, is_some, Some, None, Option, sym, ap, ◌∙◌, subst, arith}
 use lib.Seq.{take-append_seam}
 use Rattle.octets.specs.Buffers.{fitting, placed}
 use Rattle.octets.proofs.Rooms.{fitting_room, placed_room}
 use Rattle.kinds.specs.Meaning.{Meaning, Lawful}
 use Rattle.channels.specs.declared.row.Row.{Row}
 use Rattle.channels.specs.Table.{row_at}
-use Rattle.sensor.specs.declared.object.Object.{Object}
-use Rattle.sensor.specs.declared.object.Object.TheVariants.{SystemCommand, TeachSelect, TeachResult, Setpoints, Configuration}
+use Rattle.objects.specs.declared.object.Object.{Object}
+use Rattle.objects.specs.declared.object.Object.TheVariants.{SystemCommand, TeachSelect, TeachResult, Setpoints, Configuration}
 use Rattle.sensor.specs.declared.device.Device.{Device}
-use Rattle.sensor.specs.Access.{configuration_read, read_octets, row_read, setpoints_read}
-
-either_short : (b : Bool) (xs ys : List ℕ) → length xs ≤ 8 → length ys ≤ 8 → length (cond b xs ys) ≤ 8
-either_short true xs ys h k = h
-either_short false xs ys h k = k
+use Rattle.objects.specs.Reads.{Readable, configuration_read, row_read, setpoints_read}
+use Rattle.objects.proofs.Showing.{OneToEight, configuration_shown, setpoints_shown}
+use Rattle.sensor.specs.Access.{read_octets}
 
 module _ {V : Type 0} (m : Meaning V) (l : Lawful V m) where
-  narrow : m.width ≤ 4
-  narrow = elim l.width_two_or_four [ inl e ↦ omega arith | inr e ↦ omega arith ]
+  row_shown : (f : Row V → List ℕ) → ((r : Row V) → OneToEight (f r)) → (o : Option (Row V)) → is_some o ≡ true → OneToEight (row_read f o)
+  row_shown f h None e = absurd (let z : ◌≡◌ {A = ℕ} 0 1 = cc in omega arith)
+  row_shown f h (Some r) e = h r
 
-  one_short : (v : V) → length (m.octets v) ≤ 8
-  one_short v = omega (arith, l.octets_wide v, narrow)
+  pub read_shown : (d : Device V) (o : Object) (sub : ℕ) → Readable d.channels o → OneToEight (read_octets m d o sub)
+  read_shown d SystemCommand sub h = absurd (let e = h.0 in let z : ◌≡◌ {A = ℕ} 0 1 = cc in omega arith)
+  read_shown d TeachSelect sub h = (omega arith, omega arith)
+  read_shown d TeachResult sub h = (omega arith, omega arith)
+  read_shown d (Setpoints k) sub h = row_shown (setpoints_read m sub) (setpoints_shown m l sub) (row_at d.channels k) h.1
+  read_shown d (Configuration k) sub h = row_shown (configuration_read sub) (configuration_shown sub) (row_at d.channels k) h.1
 
-  both_short : (v w : V) → length (m.octets v ++ m.octets w) ≤ 8
-  both_short v w = omega (arith, length-append (m.octets v) (m.octets w), l.octets_wide v, l.octets_wide w, narrow)
+-- octets of which a buffer has room stand at its front
+module _ (octets buffer : List ℕ) (h : length octets ≤ length buffer) where
+  pub gathered_some : Some (length octets) ≡ fitting octets buffer
+  gathered_some = fitting_room octets buffer h
 
-  setpoints_short : (sub : ℕ) (r : Row V) → length (setpoints_read m sub r) ≤ 8
-  setpoints_short sub r =
-      either_short (eqb sub 0) _ _ (both_short r.sp1 r.sp2) (either_short (eqb sub 1) _ _ (one_short r.sp1) (one_short r.sp2))
+  same : (x y : ℕ) → ◌≡◌ {A = Option ℕ} (Some x) (Some y) → x ≡ y
+  same x y p = cc
 
-  configuration_short : (sub : ℕ) (r : Row V) → length (configuration_read m sub r) ≤ 8
-  configuration_short sub r =
-      either_short (eqb sub 0) _ _ (omega arith) (either_short (eqb sub 1) _ _ (omega arith) (either_short (eqb sub 2) _ _ (omega arith) (omega arith)))
+  pub gathered_count : (r : Option ℕ) (n : ℕ) → r ≡ fitting octets buffer → r ≡ Some n → n ≡ length octets
+  gathered_count r n e f = same n (length octets) (sym f ∙ e ∙ sym gathered_some)
 
-  row_short : (f : Row V → List ℕ) → ((r : Row V) → length (f r) ≤ 8) → (o : Option (Row V)) → length (row_read m f o) ≤ 8
-  row_short f h None = omega arith
-  row_short f h (Some r) = h r
+  pub gathered_within : length octets ≤ length (placed octets buffer)
+  gathered_within =
+      subst (λ xs. length octets ≤ length xs) (placed_room octets buffer h) (omega (arith, length-append octets (drop (length octets) buffer)))
 
-  pub read_short : (d : Device V) (o : Object) (sub : ℕ) → length (read_octets m d o sub) ≤ 8
-  read_short d SystemCommand sub = omega arith
-  read_short d TeachSelect sub = omega arith
-  read_short d TeachResult sub = omega arith
-  read_short d (Setpoints k) sub = row_short (setpoints_read m sub) (setpoints_short sub) (row_at d.channels k)
-  read_short d (Configuration k) sub = row_short (configuration_read m sub) (configuration_short sub) (row_at d.channels k)
-
--- what was gathered in a buffer of eight octets is what its front holds
-pub gathered : (octets buffer : List ℕ) → length octets ≤ 8 → length buffer ≡ 8 → take (min (unwrap_or (fitting octets buffer) 0) 8 - 0) (placed octets buffer) ≡ octets
-gathered octets buffer h e =
-    let room : length octets ≤ length buffer = omega arith in
-    let n : min (length octets) 8 - 0 ≡ length octets = omega arith in
-    (λ i. take (min (unwrap_or (sym (fitting_room octets buffer room) i) 0) 8 - 0) (sym (placed_room octets buffer room) i))
-    ∙ ap (λ k. take k (octets ++ drop (length octets) buffer)) n
-    ∙ take-append_seam octets (drop (length octets) buffer)
+  pub gathered : take (length octets) (placed octets buffer) ≡ octets
+  gathered =
+      ap (take (length octets)) (sym (placed_room octets buffer h))
+      ∙ take-append_seam octets (drop (length octets) buffer)

@@ -2,6 +2,7 @@
 use Rattle.std.specs.Prelude.{ℕ, List, [], Some, None, Option}
 use Rattle.channels.specs.declared.row.Row.{Row}
 use Rattle.channels.specs.declared.table.Table.{Table}
+use Rattle.channels.specs.Rows.{with_sp1, with_sp2}
 use Rattle.channels.specs.Table.{present, row_at, with_row}
 use Rattle.teach.specs.declared.command.Setpoint.{Setpoint}
 use Rattle.teach.specs.declared.command.Setpoint.TheVariants.{Sp1, Sp2}
@@ -15,8 +16,7 @@ module _ {V : Type 0} where
   abbrev pub with_channels : Device V → Table V → Device V
   with_channels d t = record {
     serial = d.serial;
-    low = d.low;
-    high = d.high;
+    range = d.range;
     scale = d.scale;
     keypad = d.keypad;
     selected = d.selected;
@@ -29,8 +29,7 @@ module _ {V : Type 0} where
   abbrev pub with_teach : Device V → Teach V → Device V
   with_teach d t = record {
     serial = d.serial;
-    low = d.low;
-    high = d.high;
+    range = d.range;
     scale = d.scale;
     keypad = d.keypad;
     selected = d.selected;
@@ -41,8 +40,8 @@ module _ {V : Type 0} where
 
   -- a row with another setpoint: all its other settings and its state stay
   abbrev pub with_setpoint : Row V → Setpoint → V → Row V
-  with_setpoint r Sp1 v = record { sp1 = v; sp2 = r.sp2; hysteresis = r.hysteresis; logic = r.logic; mode = r.mode; active = r.active }
-  with_setpoint r Sp2 v = record { sp1 = r.sp1; sp2 = v; hysteresis = r.hysteresis; logic = r.logic; mode = r.mode; active = r.active }
+  with_setpoint r Sp1 v = with_sp1 r v
+  with_setpoint r Sp2 v = with_sp2 r v
 
   abbrev pub put_setpoint : Table V → ℕ → Option (Row V) → Setpoint → V → Table V
   put_setpoint t k None sp v = t

@@ -1,7 +1,7 @@
 pub mod Access
+pub mod Calls
 pub mod Devices
-pub mod Objects
+pub mod Keypad
 pub mod Requests
 pub mod Samples
 pub mod Setups
-pub mod Writes

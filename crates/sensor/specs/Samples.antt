@@ -29,7 +29,7 @@ module _ {V : Type 0} (m : Meaning V) where
 
   -- the reading as the device's range counts it
   abbrev pub counted_in : Device V → Reading V → Reading V
-  counted_in d r = counted m d.low d.high r
+  counted_in d r = counted m d.range.low d.range.high r
 
   -- every channel is judged by its settings
   abbrev pub judged_by : Device V → Reading V → Device V

@@ -1,5 +1,6 @@
 -- Set-up: its checks in their order, and the sensor's first day.
-use Rattle.std.specs.Prelude.{ℕ, Bool, false, cond, not, ◌&&◌, ℤ, Some, None, Ok, Err, Option, Result, nat_le}
+use Rattle.std.specs.Prelude.{ℕ, Bool, false, cond, not, ◌&&◌, List, ℤ, Some, None, Ok, Err, Option, Result}
+use Rattle.std.specs.Borrow.{Bor}
 use Rattle.std.specs.Int.{w8}
 use Rattle.std.proofs.Common.{of_z}
 use Rattle.faults.specs.declared.Fault.{Fault}
@@ -7,22 +8,19 @@ use Rattle.faults.specs.declared.Denial.TheVariants.{SetupUnderKeypad, ChannelCo
 use Rattle.faults.specs.Denials.{fault}
 use Rattle.kinds.specs.Meaning.{Meaning, at_most, under}
 use Rattle.channels.specs.Table.{fresh_table}
-use Rattle.teach.specs.declared.terms.Terms.{Terms}
+use Rattle.objects.specs.Objects.{from_to}
 use Rattle.teach.specs.Teaching.{idle}
 use Rattle.sensor.specs.declared.setup.Setup.{Setup}
 use Rattle.sensor.specs.declared.device.Device.{Device}
 use Rattle.sensor.specs.declared.sensor.Sensor.{Sensor}
 
--- from the first number to the last
-abbrev pub from_to : ℕ → ℕ → ℕ → Bool
-from_to first last n = nat_le first n && nat_le n last
+-- octets that a set-up lends
+abbrev pub Lent : Type 0
+Lent = Bor (List ℕ)
 
 -- the scale's octet, in two's complement
 abbrev pub scale_octet : ℤ → ℕ
 scale_octet scale = of_z w8 scale
-
-abbrev pub terms_of : Setup → Terms
-terms_of g = record { capture = g.capture; spread = g.spread; distance = g.distance }
 
 module _ {V : Type 0} where
   abbrev open_in : Option (Device V) → Bool
@@ -34,15 +32,14 @@ module _ {V : Type 0} where
   keypad_open s = open_in s.device
 
   -- the device on its first day: every channel fresh, channel 1 selected, the teach idle, no keypad operation open
-  abbrev pub fresh_device : Setup → V → V → Device V
+  abbrev pub fresh_device : Setup Lent → V → V → Device V
   fresh_device g low high = record {
     serial = g.serial;
-    low = low;
-    high = high;
+    range = record { low = low; high = high };
     scale = scale_octet g.scale;
     keypad = false;
     selected = 1;
-    terms = terms_of g;
+    terms = g.terms;
     teach = idle;
     channels = fresh_table g.channels low high;
   }
@@ -57,24 +54,24 @@ module _ {V : Type 0} (m : Meaning V) where
   lawful_range low high = under m low high && (within_limits low && within_limits high)
 
   -- 3: the range. 4: C is 1 to 64
-  abbrev range_checked : Setup → V → V → Result (Device V) Fault
+  abbrev range_checked : Setup Lent → V → V → Result (Device V) Fault
   range_checked g low high =
       cond (not (lawful_range low high)) (Err (fault Range))
-      (cond (not (from_to 1 64 g.capture)) (Err (fault CaptureLength))
+      (cond (not (from_to 1 64 g.terms.capture)) (Err (fault CaptureLength))
       (Ok (fresh_device g low high)))
 
   -- 17: an end is no value
-  abbrev ends_checked : Setup → Option V → Option V → Result (Device V) Fault
+  abbrev ends_checked : Setup Lent → Option V → Option V → Result (Device V) Fault
   ends_checked g None high = Err (fault NoValue)
   ends_checked g (Some low) None = Err (fault NoValue)
   ends_checked g (Some low) (Some high) = range_checked g low high
 
   -- the checks in their order. 1: a keypad operation is open. 2: the channel count is 1 to 8
-  abbrev pub set_up_checked : Sensor V → Setup → Result (Device V) Fault
+  abbrev pub set_up_checked : Sensor V → Setup Lent → Result (Device V) Fault
   set_up_checked s g =
       cond (keypad_open s) (Err (fault SetupUnderKeypad))
       (cond (not (from_to 1 8 g.channels)) (Err (fault ChannelCount))
-      (ends_checked g (m.read g.low.now) (m.read g.high.now)))
+      (ends_checked g (m.read g.range.low.now) (m.read g.range.high.now)))
 
   abbrev pub reply_of : Result (Device V) Fault → Result (Unit {0}) Fault
   reply_of (Ok d) = Ok tt
@@ -85,8 +82,8 @@ module _ {V : Type 0} (m : Meaning V) where
   device_of s (Err f) = s
 
   -- the reply, and the sensor afterwards: a denied set-up changes nothing
-  abbrev pub set_up_reply : Sensor V → Setup → Result (Unit {0}) Fault
+  abbrev pub set_up_reply : Sensor V → Setup Lent → Result (Unit {0}) Fault
   set_up_reply s g = reply_of (set_up_checked s g)
 
-  abbrev pub set_up_after : Sensor V → Setup → Sensor V
+  abbrev pub set_up_after : Sensor V → Setup Lent → Sensor V
   set_up_after s g = device_of s (set_up_checked s g)

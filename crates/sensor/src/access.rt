@@ -1,15 +1,18 @@
 // What a write does to the device, and what a read shows of it.
-ghost use Rattle.sensor.specs.Access.{commanded, device_or, selected_by, write_reply_of, written};
+ghost use Rattle.sensor.specs.Access.{commanded, device_or, past_count, selected_by, with_selection, write_reply_of, written};
 ghost use Rattle.std.specs.Prelude.{◌≡◌};
 
 use super::device::Device;
-use super::object::Object;
-use super::value::{write_configuration, write_setpoints};
 use faults::{Denial, Fault, Place};
 use kinds::kind::Kind;
+use objects::object::Object;
+use objects::value::{single, write_configuration, write_setpoints};
 use teach::teaching::Teach;
 
 impl<K: Kind> Device<K> {
+    // Each write, here and from the keypad, has a clause for its reply and one for the device, both taken from one definition. A
+    // single clause on a pair would be taken apart again in each proof.
+
     // A command to the teach of the selected channel.
     fn command(&mut self, code: u8, place: Place) -> Result<(), Fault>
         ensures reply { result ≡ write_reply_of (commanded K.meaning self.old place code) }
@@ -20,50 +23,42 @@ impl<K: Kind> Device<K> {
         Ok(())
     }
 
+    // Turns to a channel, which drops the teach.
+    pub fn turn_to(&mut self, channel: u8)
+        ensures { self.new ≡ with_selection self.old channel }
+    {
+        self.selected = channel;
+        self.teach = Teach::idle();
+    }
+
+    fn is_past_count(&self, channel: u8) -> bool
+        ensures { result ≡ past_count self.now channel }
+    {
+        self.channels.len() < usize::from(channel)
+    }
+
     // Selects a channel; 0 means channel 1.
     fn select(&mut self, channel: u8, place: Place) -> Result<(), Fault>
         ensures reply { result ≡ write_reply_of (selected_by self.old place channel) }
         ensures device { self.new ≡ device_or self.old (selected_by self.old place channel) }
     {
-        if self.channels.len() < channel as usize {
+        if self.is_past_count(channel) {
             return Err(Fault::at(Denial::NoValue, place));
         }
-        self.selected = channel.max(1);
-        self.teach = Teach::idle();
+        self.turn_to(channel.max(1));
         Ok(())
     }
 
-    fn write_command(&mut self, place: Place, octets: &[u8]) -> Result<(), Fault>
-        ensures reply { result ≡ write_reply_of (written K.meaning self.old place Object.SystemCommand octets.now) }
-        ensures device { self.new ≡ device_or self.old (written K.meaning self.old place Object.SystemCommand octets.now) }
-    {
-        if octets.len() == 1 {
-            self.command(octets[0], place)
-        } else {
-            Ok(())
-        }
-    }
-
-    fn write_select(&mut self, place: Place, octets: &[u8]) -> Result<(), Fault>
-        ensures reply { result ≡ write_reply_of (written K.meaning self.old place Object.TeachSelect octets.now) }
-        ensures device { self.new ≡ device_or self.old (written K.meaning self.old place Object.TeachSelect octets.now) }
-    {
-        if octets.len() == 1 {
-            self.select(octets[0], place)
-        } else {
-            Ok(())
-        }
-    }
-
+    // Two functions: with a closure for the one call that differs, the contract could say what holds of its answer, and not
+    // which row is written.
     fn set_setpoints(&mut self, channel: u8, place: Place, octets: &[u8]) -> Result<(), Fault>
         ensures reply { result ≡ write_reply_of (written K.meaning self.old place (Object.Setpoints channel) octets.now) }
         ensures device { self.new ≡ device_or self.old (written K.meaning self.old place (Object.Setpoints channel) octets.now) }
     {
-        let Some(row) = self.channels.row(channel) else {
-            return Ok(());
-        };
-        let row = write_setpoints(row, octets, self.low, self.high, place)?;
-        self.channels.replace(channel, row);
+        if let Some(row) = self.channels.row(channel) {
+            let row = write_setpoints(row, octets, self.range, place)?;
+            self.channels.replace(channel, row);
+        }
         Ok(())
     }
 
@@ -71,11 +66,10 @@ impl<K: Kind> Device<K> {
         ensures reply { result ≡ write_reply_of (written K.meaning self.old place (Object.Configuration channel) octets.now) }
         ensures device { self.new ≡ device_or self.old (written K.meaning self.old place (Object.Configuration channel) octets.now) }
     {
-        let Some(row) = self.channels.row(channel) else {
-            return Ok(());
-        };
-        let row = write_configuration(row, octets, place)?;
-        self.channels.replace(channel, row);
+        if let Some(row) = self.channels.row(channel) {
+            let row = write_configuration(row, octets, place)?;
+            self.channels.replace(channel, row);
+        }
         Ok(())
     }
 
@@ -84,12 +78,12 @@ impl<K: Kind> Device<K> {
         ensures reply { result ≡ write_reply_of (written K.meaning self.old place object octets.now) }
         ensures device { self.new ≡ device_or self.old (written K.meaning self.old place object octets.now) }
     {
-        match object {
-            Object::SystemCommand => self.write_command(place, octets),
-            Object::TeachSelect => self.write_select(place, octets),
-            Object::TeachResult => Ok(()),
-            Object::Setpoints(channel) => self.set_setpoints(channel, place, octets),
-            Object::Configuration(channel) => self.set_configuration(channel, place, octets),
+        match (object, single(octets)) {
+            (Object::SystemCommand, Some(code)) => self.command(code, place),
+            (Object::TeachSelect, Some(channel)) => self.select(channel, place),
+            (Object::Setpoints(channel), _) => self.set_setpoints(channel, place, octets),
+            (Object::Configuration(channel), _) => self.set_configuration(channel, place, octets),
+            _ => Ok(()),
         }
     }
 }

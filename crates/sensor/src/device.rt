@@ -1,9 +1,10 @@
 // What a sensor holds once it is set up.
 ghost use Rattle.channels.specs.Table.{signals_octet};
-ghost use Rattle.sensor.specs.Devices.{stored};
+ghost use Rattle.sensor.specs.Devices.{stored, with_channels, with_stored};
 ghost use Rattle.sensor.specs.Samples.{device_after, device_buffer, device_reply, fed_device, judged_by};
 ghost use Rattle.std.specs.Prelude.{◌≡◌};
 
+use channels::range::Range;
 use channels::reading::{Reading, block_length};
 use channels::table::Table;
 use faults::{Denial, Fault};
@@ -22,28 +23,33 @@ pub struct Device<K> {
     pub keypad: bool,
     // The channel that is taught, counted from 1.
     pub selected: u8,
-    pub low: K,
-    pub high: K,
+    pub range: Range<K>,
     pub teach: Teach<K>,
     pub channels: Table<K>,
 }
 
 impl<K: Kind> Device<K> {
+    // Gives a channel another setpoint; one that is not present stays away.
+    pub fn put_setpoint(&mut self, channel: u8, setpoint: Setpoint, value: K)
+        ensures { self.new ≡ with_channels self.old (with_stored self.old.channels channel setpoint value) }
+    {
+        let Some(mut row) = self.channels.row(channel) else {
+            return;
+        };
+        match setpoint {
+            Setpoint::Sp1 => row.sp1 = value,
+            Setpoint::Sp2 => row.sp2 = value,
+        }
+        self.channels.replace(channel, row);
+    }
+
     // Stores a setpoint that was taught, in the selected channel.
     pub fn store(&mut self, store: Option<Store<K>>)
         ensures { self.new ≡ stored self.old store }
     {
-        let Some(store) = store else {
-            return;
-        };
-        let Some(mut row) = self.channels.row(self.selected) else {
-            return;
-        };
-        match store.setpoint {
-            Setpoint::Sp1 => row.sp1 = store.value,
-            Setpoint::Sp2 => row.sp2 = store.value,
+        if let Some(store) = store {
+            self.put_setpoint(self.selected, store.setpoint, store.value);
         }
-        self.channels.replace(self.selected, row);
     }
 
     // Feeds the teach: only a value is captured.
@@ -76,7 +82,7 @@ impl<K: Kind> Device<K> {
             return Err(Fault::of(Denial::BufferTooShort));
         }
         let scale = self.scale;
-        let reading = reading.within(self.low, self.high);
+        let reading = reading.within(self.range);
         let signals = self.judge_and_feed(reading);
         reading
             .show(scale, signals, out)

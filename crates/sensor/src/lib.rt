@@ -1,11 +1,10 @@
-// One sensor: set-up, samples, requests and process data.
+// One sensor: set-up, samples and process data, requests, keypad operations.
 #![tactic(auto)]
 
 pub mod access;
 pub mod device;
-pub mod object;
+pub mod keypad;
 pub mod reads;
 pub mod respond;
 pub mod sensor;
 pub mod setup;
-pub mod value;

@@ -1,23 +1,25 @@
-// How a device answers a request that was decoded.
+// How a device answers a request.
 ghost use Rattle.faults.specs.Denials.{entry};
-ghost use Rattle.isdu.specs.Decoding.{decoded};
-ghost use Rattle.isdu.specs.Replies.{read_replied, read_reply};
+ghost use Rattle.isdu.specs.Replies.{read_reply};
 ghost use Rattle.isdu.specs.Views.{asks};
-ghost use Rattle.octets.specs.Buffers.{left};
+ghost use Rattle.isdu.specs.declared.Direction.TheVariants.{Read};
+ghost use Rattle.objects.specs.Objects.{access_checked};
+ghost use Rattle.objects.specs.Reads.{Readable};
+ghost use Rattle.octets.specs.Buffers.{over, placed};
 ghost use Rattle.sensor.specs.Access.{read_octets};
-ghost use Rattle.sensor.specs.Requests.{answered, device_answered, frame_answered, object_answered, refused_buffer};
-ghost use Rattle.std.specs.Prelude.{◌≡◌, length, Err};
+ghost use Rattle.sensor.specs.Requests.{FrameIsShown, IsShort, IsShown, answered, device_answered, negative, object_answered, reply_in};
+ghost use Rattle.std.specs.Prelude.{◌≡◌, length, IfOk, Ok, Err};
 
 use super::device::Device;
-use super::object::{Object, place};
 use faults::{Denial, Fault};
 use isdu::{Direction, Request, confirm_read, confirm_write, decode, refuse};
 use kinds::kind::Kind;
+use objects::object::{Object, access, place};
 
 // Writes the negative response of a fault.
 fn deny(fault: Fault, direction: Direction, out: &mut [u8]) -> Result<usize, Fault>
     ensures reply { result ≡ Err fault }
-    ensures buffer { out.new ≡ refused_buffer direction (entry fault.denial).code out.old }
+    ensures buffer { out.new ≡ placed (negative direction (entry fault.denial).code) out.old }
 {
     if let Some(code) = fault.denial.error_code() {
         let _ = refuse(direction, code, out);
@@ -26,35 +28,50 @@ fn deny(fault: Fault, direction: Direction, out: &mut [u8]) -> Result<usize, Fau
 }
 
 impl<K: Kind> Device<K> {
-    // The positive response to a read.
-    fn show(&self, object: Object, subindex: u8, out: &mut [u8]) -> Result<usize, Fault>
-        ensures reply { result ≡ read_replied (read_octets K.meaning self.now object subindex) (length out.old) }
-        ensures buffer { out.new ≡ left result (read_reply (read_octets K.meaning self.now object subindex)) out.old }
+    // The object that a request may reach: the checks 11 to 16. What a read reaches can be shown: said in clauses, as it is of
+    // object and table together.
+    pub fn access(&self, request: &Request) -> Result<Object, Fault>
+        ensures object { result ≡ access_checked K.meaning self.now.channels self.now.keypad (asks request.now) }
+        ensures readable { IfOk result (λ o. request.now.direction ≡ Read → Readable self.now.channels o) }
     {
-        let mut octets = [0u8; 8];
-        let n = self.read(object, subindex, &mut octets).unwrap_or(0).min(8);
-        confirm_read(&octets[0..n], out)
+        access(&self.channels, self.keypad, request)
     }
 
+    // The positive response to a read.
+    fn show(&self, object: Object, subindex: u8, out: &mut [u8]) -> Result<usize, Fault>
+        requires { Readable self.now.channels object }
+        ensures reply { result ≡ reply_in (length out.old) (Ok (length (read_reply (read_octets K.meaning self.now object subindex)))) }
+        ensures buffer { out.new ≡ placed (read_reply (read_octets K.meaning self.now object subindex)) out.old }
+    {
+        // No heap: an object has at most 8 octets.
+        let mut octets = [0u8; 8];
+        let n = self.read(object, subindex, &mut octets).unwrap();
+        confirm_read(&octets[..n], out)
+    }
+
+    // Reads or writes an object that the request may reach.
     fn perform(&mut self, request: &Request, object: Object, out: &mut [u8]) -> Result<usize, Fault>
-        ensures reply { result ≡ (object_answered K.meaning request.now.direction self.old (asks request.now) out.old object).reply }
-        ensures device { self.new ≡ (object_answered K.meaning request.now.direction self.old (asks request.now) out.old object).device }
-        ensures buffer { out.new ≡ (object_answered K.meaning request.now.direction self.old (asks request.now) out.old object).buffer }
+        requires { request.now.direction ≡ Read → Readable self.old.channels object }
+        ensures reply { result ≡ reply_in (length out.old) (object_answered K.meaning request.now.direction self.old (asks request.now) object).reply }
+        ensures device { self.new ≡ (object_answered K.meaning request.now.direction self.old (asks request.now) object).device }
+        ensures buffer { out.new ≡ placed (object_answered K.meaning request.now.direction self.old (asks request.now) object).response out.old }
     {
         match request.direction {
             Direction::Read => self.show(object, request.subindex, out),
             Direction::Write => match self.write(object, place(request), request.data) {
                 Ok(()) => confirm_write(out),
-                Err(fault) => deny(fault, request.direction, out),
+                Err(fault) => deny(fault, Direction::Write, out),
             },
         }
     }
 
     // Answers a request: the checks 11 to 21, then the read or the write, and the response.
     pub fn respond(&mut self, request: &Request, out: &mut [u8]) -> Result<usize, Fault>
-        ensures reply { result ≡ (answered K.meaning self.old (asks request.now) out.old).reply }
-        ensures device { self.new ≡ (answered K.meaning self.old (asks request.now) out.old).device }
-        ensures buffer { out.new ≡ (answered K.meaning self.old (asks request.now) out.old).buffer }
+        ensures reply { result ≡ reply_in (length out.old) (answered K.meaning self.old (asks request.now)).reply }
+        ensures device { self.new ≡ (answered K.meaning self.old (asks request.now)).device }
+        ensures buffer { out.new ≡ placed (answered K.meaning self.old (asks request.now)).response out.old }
+        ensures short { IsShort (answered K.meaning self.old (asks request.now)) }
+        ensures shown { IsShown K.meaning self.old (asks request.now) }
     {
         match self.access(request) {
             Ok(object) => self.perform(request, object, out),
@@ -62,27 +79,17 @@ impl<K: Kind> Device<K> {
         }
     }
 
-    // Takes a frame: what is no request is denied with nothing written.
-    fn take_frame(&mut self, frame: &[u8], out: &mut [u8]) -> Result<usize, Fault>
-        ensures reply { result ≡ (frame_answered K.meaning self.old (decoded frame.now) out.old).reply }
-        ensures device { self.new ≡ (frame_answered K.meaning self.old (decoded frame.now) out.old).device }
-        ensures buffer { out.new ≡ (frame_answered K.meaning self.old (decoded frame.now) out.old).buffer }
-    {
-        match decode(frame) {
-            Ok(request) => self.respond(&request, out),
-            Err(fault) => Err(fault),
-        }
-    }
-
-    // Takes a request, given room for any response.
+    // Takes a request, once there is room for any response. A frame that is no request is denied with nothing written.
     pub fn request(&mut self, frame: &[u8], out: &mut [u8]) -> Result<usize, Fault>
         ensures reply { result ≡ (device_answered K.meaning self.old frame.now out.old).reply }
         ensures device { self.new ≡ (device_answered K.meaning self.old frame.now out.old).device }
-        ensures buffer { out.new ≡ (device_answered K.meaning self.old frame.now out.old).buffer }
+        ensures buffer { out.new ≡ over (device_answered K.meaning self.old frame.now out.old).response out.old }
+        ensures shown { FrameIsShown K.meaning frame.now out.old self.old }
     {
         if out.len() < 16 {
             return Err(Fault::of(Denial::ResponseBuffer));
         }
-        self.take_frame(frame, out)
+        let request = decode(frame)?;
+        self.respond(&request, out)
     }
 }

@@ -1,54 +1,51 @@
 // The sensor and its calls.
+ghost use Rattle.objects.specs.Objects.{from_to};
 ghost use Rattle.sensor.specs.Devices.{channels_of};
-ghost use Rattle.sensor.specs.Requests.{request_after, request_buffer, request_reply};
+ghost use Rattle.sensor.specs.Requests.{FrameIsShown, request_after, request_buffer, request_reply};
 ghost use Rattle.sensor.specs.Samples.{decoded, sample_after, sample_buffer, sample_reply};
-ghost use Rattle.sensor.specs.Setups.{fresh_device, from_to, keypad_open, lawful_range, set_up_after, set_up_checked, set_up_reply};
-ghost use Rattle.std.specs.Prelude.{◌≡◌, None};
+ghost use Rattle.sensor.specs.Setups.{fresh_device, keypad_open, lawful_range, set_up_after, set_up_checked, set_up_reply};
+ghost use Rattle.std.specs.Prelude.{◌≡◌, None, IfSome};
 
 use super::device::Device;
 use super::setup::Setup;
+use channels::range::Range;
 use channels::reading::Reading;
 use channels::row::Row;
 use channels::table::Table;
 use faults::{Denial, Fault};
 use kinds::kind::Kind;
 use teach::teaching::Teach;
-use teach::terms::Terms;
 
 // A sensor; without a device it is blank.
 #[derive(Drop)]
 pub struct Sensor<K> {
-    device: Option<Device<K>>,
+    pub(super) device: Option<Device<K>>,
 }
 
 fn is_from_to(n: u8, first: u8, last: u8) -> bool
     ensures { result ≡ from_to first last n }
 {
-    first <= n && n <= last
+    (first..=last).contains(&n)
 }
 
 // Whether both ends lie within the kind's limits, the low one below the high one.
-fn range_lawful<K: Kind>(low: K, high: K) -> bool
-    ensures { result ≡ lawful_range K.meaning low high }
+fn range_lawful<K: Kind>(range: Range<K>) -> bool
+    ensures { result ≡ lawful_range K.meaning range.low range.high }
 {
-    low.is_under(high)
-        && K::low_limit().at_most(low)
-        && low.at_most(K::high_limit())
-        && K::low_limit().at_most(high)
-        && high.at_most(K::high_limit())
+    range.low.is_under(range.high)
+        && K::low_limit().at_most(range.low)
+        && range.low.at_most(K::high_limit())
+        && K::low_limit().at_most(range.high)
+        && range.high.at_most(K::high_limit())
 }
 
-// The reading that octets bring; none where they are no value.
+// The reading that octets bring; none where they are no value. A `map` of readings and its `transpose` would each have these
+// four arms.
 fn decode_reading<K: Kind>(reading: Reading<&[u8]>) -> Option<Reading<K>>
     ensures { result ≡ decoded K.meaning reading.entry }
 {
     match reading {
-        Reading::Value(octets) => {
-            let Some(v) = K::read(octets) else {
-                return None;
-            };
-            Some(Reading::Value(v))
-        }
+        Reading::Value(octets) => K::read(octets).map(Reading::Value),
         Reading::Below => Some(Reading::Below),
         Reading::Above => Some(Reading::Above),
         Reading::NoData => Some(Reading::NoData),
@@ -56,24 +53,18 @@ fn decode_reading<K: Kind>(reading: Reading<&[u8]>) -> Option<Reading<K>>
 }
 
 // The device after set-up.
-fn fresh<K: Kind>(setup: &Setup, low: K, high: K) -> Device<K>
-    ensures { result ≡ fresh_device setup.now low high }
+fn fresh<K: Kind>(setup: &Setup<&[u8]>, range: Range<K>) -> Device<K>
+    ensures { result ≡ fresh_device setup.now range.low range.high }
 {
-    let [scale] = setup.scale.to_be_bytes();
     Device {
         serial: setup.serial,
-        low,
-        high,
-        scale,
+        range,
+        scale: setup.scale.cast_unsigned(),
         keypad: false,
         selected: 1,
-        terms: Terms {
-            capture: setup.capture,
-            spread: setup.spread,
-            distance: setup.distance,
-        },
+        terms: setup.terms,
         teach: Teach::idle(),
-        channels: Table::fresh(setup.channels, low, high),
+        channels: Table::fresh(setup.channels, range),
     }
 }
 
@@ -88,6 +79,7 @@ impl<K: Kind> Sensor<K> {
     fn keypad_open(&self) -> bool
         ensures { result ≡ keypad_open self.now }
     {
+        // `is_some_and` was tried: that the borrow handed to its closure has room stayed open.
         match &self.device {
             Some(device) => device.keypad,
             None => false,
@@ -95,7 +87,7 @@ impl<K: Kind> Sensor<K> {
     }
 
     // The checks of a set-up, in their order, and the device that it gives.
-    fn checked(&self, setup: &Setup) -> Result<Device<K>, Fault>
+    fn checked(&self, setup: &Setup<&[u8]>) -> Result<Device<K>, Fault>
         ensures { result ≡ set_up_checked K.meaning self.now setup.now }
     {
         if self.keypad_open() {
@@ -104,28 +96,24 @@ impl<K: Kind> Sensor<K> {
         if !is_from_to(setup.channels, 1, 8) {
             return Err(Fault::of(Denial::ChannelCount));
         }
-        let Some(low) = K::read(setup.low) else {
-            return Err(Fault::of(Denial::NoValue));
-        };
-        let Some(high) = K::read(setup.high) else {
-            return Err(Fault::of(Denial::NoValue));
-        };
-        if !range_lawful(low, high) {
+        let low = K::read(setup.range.low).ok_or(Denial::NoValue)?;
+        let high = K::read(setup.range.high).ok_or(Denial::NoValue)?;
+        let range = Range { low, high };
+        if !range_lawful(range) {
             return Err(Fault::of(Denial::Range));
         }
-        if !is_from_to(setup.capture, 1, 64) {
+        if !is_from_to(setup.terms.capture, 1, 64) {
             return Err(Fault::of(Denial::CaptureLength));
         }
-        Ok(fresh(setup, low, high))
+        Ok(fresh(setup, range))
     }
 
     // Sets the sensor up anew. A denied set-up changes nothing.
-    pub fn set_up(&mut self, setup: &Setup) -> Result<(), Fault>
+    pub fn set_up(&mut self, setup: &Setup<&[u8]>) -> Result<(), Fault>
         ensures reply { result ≡ set_up_reply K.meaning self.old setup.now }
         ensures sensor { self.new ≡ set_up_after K.meaning self.old setup.now }
     {
-        let device = self.checked(setup)?;
-        self.device = Some(device);
+        self.device = Some(self.checked(setup)?);
         Ok(())
     }
 
@@ -135,12 +123,8 @@ impl<K: Kind> Sensor<K> {
         ensures sensor { self.new ≡ sample_after K.meaning self.old reading.entry out.old }
         ensures buffer { out.new ≡ sample_buffer K.meaning self.old reading.entry out.old }
     {
-        let Some(device) = &mut self.device else {
-            return Err(Fault::of(Denial::Blank));
-        };
-        let Some(reading) = decode_reading(reading) else {
-            return Err(Fault::of(Denial::NoValue));
-        };
+        let device = self.device.as_mut().ok_or(Denial::Blank)?;
+        let reading = decode_reading(reading).ok_or(Denial::NoValue)?;
         device.sample(reading, out)
     }
 
@@ -150,17 +134,19 @@ impl<K: Kind> Sensor<K> {
         ensures reply { result ≡ request_reply K.meaning self.old frame.now out.old }
         ensures sensor { self.new ≡ request_after K.meaning self.old frame.now out.old }
         ensures buffer { out.new ≡ request_buffer K.meaning self.old frame.now out.old }
+        ensures shown { IfSome self.old.device (FrameIsShown K.meaning frame.now out.old) }
     {
-        match &mut self.device {
-            Some(device) => device.request(frame, out),
-            None => Err(Fault::of(Denial::Blank)),
-        }
+        self.device
+            .as_mut()
+            .ok_or(Denial::Blank)?
+            .request(frame, out)
     }
 
     // The channels, channel 1 first; none on a blank sensor.
     pub fn channels(&self) -> &[Row<K>]
         ensures { result.now ≡ channels_of self.now }
     {
+        // A `match`, as in `keypad_open`.
         match &self.device {
             Some(device) => device.channels.present(),
             None => &[],

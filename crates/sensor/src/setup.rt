@@ -1,14 +1,12 @@
-// What a sensor is set up from. The ends of the range are octets of its kind.
+// What a sensor is set up from. `T` has the octets of an end of the range.
+use channels::range::Range;
+use teach::terms::Terms;
+
 #[derive(Clone, Copy)]
-pub struct Setup<'a> {
+pub struct Setup<T> {
     pub serial: u32,
     pub channels: u8,
-    pub low: &'a [u8],
-    pub high: &'a [u8],
     pub scale: i8,
-    // How many values a capture takes.
-    pub capture: u8,
-    // Spread and distance of a teach, in steps.
-    pub spread: u16,
-    pub distance: u16,
+    pub terms: Terms,
+    pub range: Range<T>,
 }

@@ -1,24 +1,23 @@
 -- The promises of the teach.
-use Rattle.std.proofs.Common.{◌≡◌, ℕ, ◌+◌, ◌<◌, Bool, true, false, cond, List, [], ◌∷◌, length, Some, None, Ok, Err, Option, Result, sym, refl, ap, ◌∙◌, subst, arith, le-leb}
-use borrow.Author.Tests.{lt-leb}
+use Rattle.std.proofs.Common.{◌≡◌, ℕ, ◌+◌, ◌<◌, Bool, true, false, cond, List, [], ◌∷◌, length, Some, None, Ok, Err, Option, Result, refl, ap, ◌∙◌, subst, arith, le-leb}
+use Rattle.std.proofs.lemmas.Bool.{cond-false, cond-true, lt-leb}
 use Rattle.kinds.specs.Meaning.{Meaning, Lawful}
-use Rattle.kinds.proofs.Bounds.{lesser_bounds, greater_bounds}
 use Rattle.teach.specs.declared.capture.Captured.{Captured}
 use Rattle.teach.specs.declared.command.Command.{Command}
 use Rattle.teach.specs.declared.command.Setpoint.{Setpoint}
 use Rattle.teach.specs.declared.machine.State.{State}
-use Rattle.teach.specs.declared.machine.State.TheVariants.{Idle, BusySingle, BusyTwo, WaitTwo, DynStart, WaitDyn}
-use Rattle.teach.specs.declared.machine.Change.TheVariants.{Clear}
-use Rattle.teach.specs.declared.machine.Verdict.TheVariants.{Open, Fails, Stores}
+use Rattle.teach.specs.declared.machine.State.TheVariants.{Idle, BusySingle, BusyTwo, WaitTwo}
+use Rattle.teach.specs.declared.machine.Verdict.TheVariants.{Fails, Stores}
 use Rattle.teach.specs.declared.terms.Terms.{Terms}
 use Rattle.teach.specs.Captures.{taken}
 use Rattle.teach.specs.Evaluation.{teachpoint_of}
-use Rattle.teach.specs.Machine.{Moved, moved, fed, full, with_point}
+use Rattle.teach.specs.Machine.{Moved, fed, full}
+use Rattle.teach.specs.Teachpoints.{with_teachpoint}
 use Rattle.faults.specs.declared.Fault.{Fault}
 use Rattle.faults.specs.declared.Place.{Place}
 use Rattle.teach.specs.declared.teaching.Teach.{Teach}
 use Rattle.teach.specs.Teaching.{known, row_in, reply_of, reply_to, teach_of, teach_to, taken_reply, taken_teach}
-use Rattle.teach.specs.Promises.{is_busy, fed_all, TakesExactlyC, Between, StoresWithin, CapturesWiden, CancelStoresNothing}
+use Rattle.teach.specs.Promises.{is_busy, fed_all, TakesExactlyC, Between, StoresWithin}
 
 abbrev counted : {V : Type 0} → Option (Captured V) → ℕ
 counted None = 0
@@ -33,10 +32,10 @@ module _ {V : Type 0} (m : Meaning V) (t : Terms) (busy : Option (Captured V) �
   count_more (Some k) v = refl
 
   goes_on : (k : Option (Captured V)) (v : V) → counted k + 1 < t.capture → (fed m t (busy k) v).state ≡ busy (Some (taken m k v))
-  goes_on k v h = steps k v ∙ ap (λ (b : Bool). cond b (over (taken m k v)) (busy (Some (taken m k v)))) (lt-leb t.capture (taken m k v).count (omega (arith, count_more k v)))
+  goes_on k v h = steps k v ∙ cond-false _ _ _ (lt-leb t.capture (taken m k v).count (omega (arith, count_more k v)))
 
   is_over : (k : Option (Captured V)) (v : V) → counted k + 1 ≡ t.capture → (fed m t (busy k) v).state ≡ over (taken m k v)
-  is_over k v h = steps k v ∙ ap (λ (b : Bool). cond b (over (taken m k v)) (busy (Some (taken m k v)))) (le-leb t.capture (taken m k v).count (omega (arith, count_more k v)))
+  is_over k v h = steps k v ∙ cond-true _ _ _ (le-leb t.capture (taken m k v).count (omega (arith, count_more k v)))
 
   fewer : (vs : List V) (k : Option (Captured V)) → counted k + length vs < t.capture → is_busy (fed_all m t (busy k) vs) ≡ true
   fewer [] k h = busies k
@@ -56,8 +55,8 @@ takes_exactly_c m t = (
     λ h p. all_of_them m t (BusySingle sp) (λ k. Idle) (single sp) (λ k. refl) (λ k. refl) vs None (omega arith) p,
   ),
   λ sp tp p vs. (
-    λ h. fewer m t (λ k. BusyTwo sp tp k p) (λ k. WaitTwo sp (with_point p tp (teachpoint_of m t k.lowest k.highest))) (two sp tp p) (λ k. refl) (λ k. refl) vs None (omega arith),
-    λ h q. all_of_them m t (λ k. BusyTwo sp tp k p) (λ k. WaitTwo sp (with_point p tp (teachpoint_of m t k.lowest k.highest))) (two sp tp p) (λ k. refl) (λ k. refl) vs None (omega arith) q,
+    λ h. fewer m t (λ k. BusyTwo sp tp k p) (λ k. WaitTwo sp (with_teachpoint p tp (Some (teachpoint_of m t k.span.lowest k.span.highest)))) (two sp tp p) (λ k. refl) (λ k. refl) vs None (omega arith),
+    λ h q. all_of_them m t (λ k. BusyTwo sp tp k p) (λ k. WaitTwo sp (with_teachpoint p tp (Some (teachpoint_of m t k.span.lowest k.span.highest)))) (two sp tp p) (λ k. refl) (λ k. refl) vs None (omega arith) q,
   ),
 )
   where
@@ -68,13 +67,13 @@ takes_exactly_c m t = (
     single : (sp : Setpoint) (k : Option (Captured _)) (v : _) → (fed m t (BusySingle sp k) v).state ≡ cond (full m t (taken m k v)) Idle (BusySingle sp (Some (taken m k v)))
     single sp k v = state_if (full m t (taken m k v)) _ _
 
-    two : (sp : Setpoint) (tp : _) (p : _) (k : Option (Captured _)) (v : _) → (fed m t (BusyTwo sp tp k p) v).state ≡ cond (full m t (taken m k v)) (WaitTwo sp (with_point p tp (teachpoint_of m t (taken m k v).lowest (taken m k v).highest))) (BusyTwo sp tp (Some (taken m k v)) p)
+    two : (sp : Setpoint) (tp : _) (p : _) (k : Option (Captured _)) (v : _) → (fed m t (BusyTwo sp tp k p) v).state ≡ cond (full m t (taken m k v)) (WaitTwo sp (with_teachpoint p tp (Some (teachpoint_of m t (taken m k v).span.lowest (taken m k v).span.highest)))) (BusyTwo sp tp (Some (taken m k v)) p)
     two sp tp p k v = state_if (full m t (taken m k v)) _ _
 
 -- ---- evaluations
 module _ {V : Type 0} (m : Meaning V) (l : Lawful V m) (t : Terms) where
   stored_is : (b : Bool) (sp s : Setpoint) (x v : V) → cond b Fails (Stores sp x) ≡ Stores s v → x ≡ v
-  stored_is true sp s x v h = absurd (let z : ◌≡◌ {A = ℕ} 0 1 = cc in omega arith)
+  stored_is true sp s x v h = cc
   stored_is false sp s x v h = cc
 
   middle_between : (a b v : V) → m.middle a b ≡ v → Between m t a b v
@@ -87,25 +86,11 @@ module _ {V : Type 0} (m : Meaning V) (l : Lawful V m) (t : Terms) where
     λ h. middle_between a b v (stored_is _ sp s (m.middle a b) v h),
   )
 
-  pub captures_widen : CapturesWiden m t
-  captures_widen k v =
-      let low = lesser_bounds m v k.lowest in
-      let high = greater_bounds m v k.highest in
-      (low.0, low.1, high.0, high.1)
-
-  pub cancel_stores_nothing : CancelStoresNothing m t
-  cancel_stores_nothing f Idle c x h = absurd (let z : ◌≡◌ {A = ℕ} 0 1 = cc in omega arith)
-  cancel_stores_nothing f (BusySingle sp k) c x h = absurd (let z : ◌≡◌ {A = ℕ} 0 1 = cc in omega arith)
-  cancel_stores_nothing f (BusyTwo sp tp k p) c x h = absurd (let z : ◌≡◌ {A = ℕ} 0 1 = cc in omega arith)
-  cancel_stores_nothing f (WaitTwo sp p) c x h = let e : moved Idle (Clear sp) Open ≡ x = cc in ap (λ (y : Moved V). y.effect.verdict) (sym e)
-  cancel_stores_nothing f (DynStart sp) c x h = absurd (let z : ◌≡◌ {A = ℕ} 0 1 = cc in omega arith)
-  cancel_stores_nothing f (WaitDyn sp lo hi) c x h = let e : moved Idle (Clear sp) Open ≡ x = cc in ap (λ (y : Moved V). y.effect.verdict) (sym e)
-
 -- ---- a command that is denied leaves the teach as it was
 module _ {V : Type 0} (m : Meaning V) (terms : Terms) (place : Place) (t : Teach V) where
   row_denied : (x : Option (Moved V)) (f : Fault) → Err f ≡ reply_of m terms place x → teach_of m terms t x ≡ t
   row_denied None f h = refl
-  row_denied (Some x) f h = absurd (let z : ◌≡◌ {A = ℕ} 0 1 = cc in omega arith)
+  row_denied (Some x) f h = cc
 
   code_denied : (k : Result Command Fault) (f : Fault) → Err f ≡ reply_to m terms place t k → teach_to m terms t k ≡ t
   code_denied (Err e) f h = refl

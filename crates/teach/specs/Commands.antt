@@ -1,5 +1,6 @@
 -- The table of teach commands.
-use Rattle.std.specs.Prelude.{ℕ, cond, List, [], ◌∷◌, Some, None, Option, ◌==◌}
+use Rattle.std.specs.Prelude.{ℕ, List, [], ◌∷◌, Option, ◌==◌}
+use Rattle.std.specs.List.{find}
 use Rattle.teach.specs.declared.command.Command.{Command}
 use Rattle.teach.specs.declared.command.Setpoint.{Setpoint}
 use Rattle.teach.specs.declared.command.Setpoint.TheVariants.{Sp1, Sp2}
@@ -31,8 +32,7 @@ commands =
 
 -- the first row with a code
 abbrev pub found : ℕ → List Command → Option Command
-found code [] = None
-found code (c ∷ cs) = cond (c.code == code) (Some c) (found code cs)
+found code = find (λ c. c.code == code)
 
 abbrev pub row_of : ℕ → Option Command
 row_of code = found code commands

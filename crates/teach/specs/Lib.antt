@@ -3,5 +3,6 @@ pub mod Commands
 pub mod Evaluation
 pub mod Flags
 pub mod Machine
+pub mod Teachpoints
 pub mod Teaching
 pub mod Promises

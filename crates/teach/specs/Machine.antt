@@ -4,16 +4,16 @@ use Rattle.faults.specs.declared.Fault.{Fault}
 use Rattle.faults.specs.declared.Denial.TheVariants.{NotInState}
 use Rattle.faults.specs.declared.Place.{Place}
 use Rattle.faults.specs.Denials.{fault_at}
-use Rattle.kinds.specs.Meaning.{Meaning, lesser, greater}
+use Rattle.kinds.specs.Meaning.{Meaning}
 use Rattle.teach.specs.declared.capture.Captured.{Captured}
+use Rattle.teach.specs.declared.capture.Span.{Span}
 use Rattle.teach.specs.declared.command.Command.{Command}
 use Rattle.teach.specs.declared.command.Setpoint.{Setpoint}
 use Rattle.teach.specs.declared.command.Setpoint.TheVariants.{Sp1, Sp2}
 use Rattle.teach.specs.declared.command.Teachpoint.{Teachpoint}
-use Rattle.teach.specs.declared.command.Teachpoint.TheVariants.{Tp1, Tp2}
 use Rattle.teach.specs.declared.command.Step.{Step}
 use Rattle.teach.specs.declared.command.Step.TheVariants.{Apply, Single, Point, Start, Stop, Cancel}
-use Rattle.teach.specs.declared.machine.Points.{Points}
+use Rattle.teach.specs.declared.machine.Teachpoints.{Teachpoints}
 use Rattle.teach.specs.declared.machine.State.{State}
 use Rattle.teach.specs.declared.machine.State.TheVariants.{Idle, BusySingle, BusyTwo, WaitTwo, DynStart, WaitDyn}
 use Rattle.teach.specs.declared.machine.Flags.{Flags}
@@ -23,9 +23,10 @@ use Rattle.teach.specs.declared.machine.Verdict.{Verdict}
 use Rattle.teach.specs.declared.machine.Verdict.TheVariants.{Open}
 use Rattle.teach.specs.declared.machine.Effect.{Effect}
 use Rattle.teach.specs.declared.terms.Terms.{Terms}
-use Rattle.teach.specs.Captures.{taken}
+use Rattle.teach.specs.Captures.{span_of, taken, widened}
 use Rattle.teach.specs.Evaluation.{evaluate_single, evaluate_two, evaluate_dynamic, teachpoint_of}
 use Rattle.teach.specs.Flags.{both_set}
+use Rattle.teach.specs.Teachpoints.{with_teachpoint}
 
 abbrev pub same_setpoint : Setpoint → Setpoint → Bool
 same_setpoint Sp1 Sp1 = true
@@ -33,14 +34,8 @@ same_setpoint Sp1 Sp2 = false
 same_setpoint Sp2 Sp1 = false
 same_setpoint Sp2 Sp2 = true
 
-module _ {V : Type 0} where
-  abbrev pub no_points : Points V
-  no_points = record { tp1 = None; tp2 = None }
-
-  -- a teachpoint that is taken again replaces the earlier one
-  abbrev pub with_point : Points V → Teachpoint → V → Points V
-  with_point p Tp1 v = record { tp1 = Some v; tp2 = p.tp2 }
-  with_point p Tp2 v = record { tp1 = p.tp1; tp2 = Some v }
+abbrev pub no_points : {V : Type 0} → Teachpoints (Option V)
+no_points = record { tp1 = None; tp2 = None }
 
 -- where a step leads: the state, what becomes of the flags, and what comes of the teach
 pub record Moved (V : Type 0) : Type 0 where
@@ -93,12 +88,12 @@ module _ {V : Type 0} (m : Meaning V) (flags : Flags) (t : Terms) where
   row (WaitTwo sp p) Start c = None
   row (WaitTwo sp p) Stop c = None
   row (DynStart sp) other c = None
-  row (WaitDyn sp lo hi) Start c = only (same_setpoint sp c.setpoint) (goes (DynStart sp))
-  row (WaitDyn sp lo hi) Stop c = only (same_setpoint sp c.setpoint) (ends (evaluate_dynamic m t sp lo hi))
-  row (WaitDyn sp lo hi) Cancel c = drops sp
-  row (WaitDyn sp lo hi) Apply c = None
-  row (WaitDyn sp lo hi) Single c = None
-  row (WaitDyn sp lo hi) Point c = None
+  row (WaitDyn sp s) Start c = only (same_setpoint sp c.setpoint) (goes (DynStart sp))
+  row (WaitDyn sp s) Stop c = only (same_setpoint sp c.setpoint) (ends (evaluate_dynamic m t sp s.lowest s.highest))
+  row (WaitDyn sp s) Cancel c = drops sp
+  row (WaitDyn sp s) Apply c = None
+  row (WaitDyn sp s) Single c = None
+  row (WaitDyn sp s) Point c = None
 
   -- 21: the command is not in the state's row, or Apply without both flags
   abbrev pub reply_by : Place → Option (Moved V) → Result (Effect V) Fault
@@ -120,12 +115,17 @@ module _ {V : Type 0} (m : Meaning V) (t : Terms) where
   abbrev pub full : Captured V → Bool
   full k = nat_le t.capture k.count
 
-  abbrev pub single_fed : Setpoint → Captured V → Moved V
-  single_fed sp k = cond (full k) (moved Idle Keep (evaluate_single m t sp k.lowest k.highest)) (moved (BusySingle sp (Some k)) Keep Open)
+  -- what a capture answers: the span of its values, once it is full
+  abbrev pub ended : Captured V → Option (Span V)
+  ended k = cond (full k) (Some k.span) None
 
-  abbrev pub two_fed : Setpoint → Teachpoint → Points V → Captured V → Moved V
+  abbrev pub single_fed : Setpoint → Captured V → Moved V
+  single_fed sp k = cond (full k) (moved Idle Keep (evaluate_single m t sp k.span.lowest k.span.highest)) (moved (BusySingle sp (Some k)) Keep Open)
+
+  -- a teachpoint that is taken again replaces the earlier one
+  abbrev pub two_fed : Setpoint → Teachpoint → Teachpoints (Option V) → Captured V → Moved V
   two_fed sp tp p k =
-      cond (full k) (moved (WaitTwo sp (with_point p tp (teachpoint_of m t k.lowest k.highest))) (Set sp tp) Open) (moved (BusyTwo sp tp (Some k) p) Keep Open)
+      cond (full k) (moved (WaitTwo sp (with_teachpoint p tp (Some (teachpoint_of m t k.span.lowest k.span.highest)))) (Set sp tp) Open) (moved (BusyTwo sp tp (Some k) p) Keep Open)
 
   -- a value: captured in the Busy states, by Dyn Start and by Wait Dyn
   abbrev pub fed : State V → V → Moved V
@@ -133,5 +133,5 @@ module _ {V : Type 0} (m : Meaning V) (t : Terms) where
   fed (BusySingle sp k) v = single_fed sp (taken m k v)
   fed (BusyTwo sp tp k p) v = two_fed sp tp p (taken m k v)
   fed (WaitTwo sp p) v = moved (WaitTwo sp p) Keep Open
-  fed (DynStart sp) v = moved (WaitDyn sp v v) Keep Open
-  fed (WaitDyn sp lo hi) v = moved (WaitDyn sp (lesser m v lo) (greater m v hi)) Keep Open
+  fed (DynStart sp) v = moved (WaitDyn sp (span_of v)) Keep Open
+  fed (WaitDyn sp s) v = moved (WaitDyn sp (widened m s v)) Keep Open

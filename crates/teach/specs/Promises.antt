@@ -1,5 +1,5 @@
 -- What holds of every teach, whatever the kind and the terms.
-use Rattle.std.specs.Prelude.{◌≡◌, ◌<◌, Bool, true, false, List, [], ◌∷◌, length, ◌≤ℤ◌, Some, None}
+use Rattle.std.specs.Prelude.{◌≡◌, ◌<◌, Bool, true, false, List, [], ◌∷◌, length, ◌≤ℤ◌, Some, None, Option}
 use Rattle.kinds.specs.Meaning.{Meaning, lesser, greater}
 use Rattle.teach.specs.declared.capture.Captured.{Captured}
 use Rattle.teach.specs.declared.command.Command.{Command}
@@ -7,7 +7,7 @@ use Rattle.teach.specs.declared.command.Setpoint.{Setpoint}
 use Rattle.teach.specs.declared.command.Teachpoint.{Teachpoint}
 use Rattle.teach.specs.declared.command.Step.TheVariants.{Cancel}
 use Rattle.teach.specs.declared.machine.Flags.{Flags}
-use Rattle.teach.specs.declared.machine.Points.{Points}
+use Rattle.teach.specs.declared.machine.Teachpoints.{Teachpoints}
 use Rattle.teach.specs.declared.machine.State.{State}
 use Rattle.teach.specs.declared.machine.State.TheVariants.{Idle, BusySingle, BusyTwo, WaitTwo, DynStart, WaitDyn}
 use Rattle.teach.specs.declared.machine.Verdict.TheVariants.{Open, Stores}
@@ -24,7 +24,7 @@ module _ {V : Type 0} where
   is_busy (BusyTwo sp tp k p) = true
   is_busy (WaitTwo sp p) = false
   is_busy (DynStart sp) = false
-  is_busy (WaitDyn sp lo hi) = false
+  is_busy (WaitDyn sp s) = false
 
 module _ {V : Type 0} (m : Meaning V) (t : Terms) where
   -- the state after values, one after the other
@@ -41,7 +41,7 @@ module _ {V : Type 0} (m : Meaning V) (t : Terms) where
   abbrev pub TakesExactlyC : Type 0
   TakesExactlyC =
       ((sp : Setpoint) → CapturesC (BusySingle sp None))
-      × ((sp : Setpoint) (tp : Teachpoint) (p : Points V) → CapturesC (BusyTwo sp tp None p))
+      × ((sp : Setpoint) (tp : Teachpoint) (p : Teachpoints (Option V)) → CapturesC (BusyTwo sp tp None p))
 
   -- v lies from the lower to the higher of a and b
   abbrev pub Between : V → V → V → Type 0
@@ -57,10 +57,10 @@ module _ {V : Type 0} (m : Meaning V) (t : Terms) where
   -- a capture's lowest and highest hold what it takes between them, and never draw together
   abbrev pub CapturesWiden : Type 0
   CapturesWiden = (k : Captured V) (v : V)
-      → (m.rank (taken m (Some k) v).lowest ≤ℤ m.rank v)
-      × (m.rank (taken m (Some k) v).lowest ≤ℤ m.rank k.lowest)
-      × (m.rank v ≤ℤ m.rank (taken m (Some k) v).highest)
-      × (m.rank k.highest ≤ℤ m.rank (taken m (Some k) v).highest)
+      → (m.rank (taken m (Some k) v).span.lowest ≤ℤ m.rank v)
+      × (m.rank (taken m (Some k) v).span.lowest ≤ℤ m.rank k.span.lowest)
+      × (m.rank v ≤ℤ m.rank (taken m (Some k) v).span.highest)
+      × (m.rank k.span.highest ≤ℤ m.rank (taken m (Some k) v).span.highest)
 
   -- Cancel never stores: there is no copy to put back
   abbrev pub CancelStoresNothing : Type 0

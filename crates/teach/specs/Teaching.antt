@@ -33,7 +33,7 @@ module _ {V : Type 0} where
   is_idle (BusyTwo sp tp k p) = false
   is_idle (WaitTwo sp p) = false
   is_idle (DynStart sp) = false
-  is_idle (WaitDyn sp lo hi) = false
+  is_idle (WaitDyn sp s) = false
 
   -- a setpoint is taught once it is stored
   abbrev pub taught_by : Setpoint → Verdict V → Bool → Bool
@@ -79,7 +79,7 @@ module _ {V : Type 0} where
   teach_state t (BusyTwo sp tp k p) = 5
   teach_state t (WaitTwo sp p) = 4
   teach_state t (DynStart sp) = 5
-  teach_state t (WaitDyn sp lo hi) = 4
+  teach_state t (WaitDyn sp s) = 4
 
   -- TeachState in bits 0 to 3, the flags in bits 4 to 7
   abbrev pub teach_result : Teach V → ℕ

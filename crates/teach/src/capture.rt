@@ -1,28 +1,59 @@
 // The values of a capture: their lowest and highest, and how many they are.
-ghost use Rattle.teach.specs.Captures.{taken};
+ghost use Rattle.teach.specs.Captures.{span_of, taken, widened};
 ghost use Rattle.std.specs.Prelude.{◌≡◌};
 
 use kinds::kind::Kind;
 
+// The lowest and the highest of some values.
 #[derive(Clone, Copy)]
-pub struct Captured<K> {
-    pub count: u8,
+pub struct Span<K> {
     pub lowest: K,
     pub highest: K,
 }
 
-// The lowest, the highest and the number of the values, once `v` is captured too.
-pub fn with_value<K: Kind>(earlier: Option<Captured<K>>, v: K) -> (K, K, u16)
-    ensures lowest { result.0 ≡ (taken K.meaning earlier v).lowest }
-    ensures highest { result.1 ≡ (taken K.meaning earlier v).highest }
-    ensures count { result.2 ≡ (taken K.meaning earlier v).count }
+#[derive(Clone, Copy)]
+pub struct Captured<K> {
+    pub count: u8,
+    pub span: Span<K>,
+}
+
+impl<K: Kind> Span<K> {
+    // The span of one value.
+    pub(crate) fn of(v: K) -> Span<K>
+        ensures { result ≡ span_of v }
+    {
+        Span {
+            lowest: v,
+            highest: v,
+        }
+    }
+
+    // The span widened by a value.
+    pub(crate) fn with(self, v: K) -> Span<K>
+        ensures { result ≡ widened K.meaning self v }
+    {
+        Span {
+            lowest: v.lesser(self.lowest),
+            highest: v.greater(self.highest),
+        }
+    }
+
+    pub(crate) fn middle(self) -> K
+        ensures { result ≡ K.meaning.middle self.lowest self.highest }
+    {
+        self.lowest.middle(self.highest)
+    }
+}
+
+// The span and the number of the values, once `v` is captured too. No `Captured`: its number is one octet, and one more
+// than 255 may come.
+pub fn with_value<K: Kind>(earlier: Option<Captured<K>>, v: K) -> (Span<K>, u16)
+    ensures lowest { result.0.lowest ≡ (taken K.meaning earlier v).span.lowest }
+    ensures highest { result.0.highest ≡ (taken K.meaning earlier v).span.highest }
+    ensures count { result.1 ≡ (taken K.meaning earlier v).count }
 {
     match earlier {
-        None => (v, v, 1),
-        Some(c) => {
-            let lowest = if v.at_most(c.lowest) { v } else { c.lowest };
-            let highest = if v.at_most(c.highest) { c.highest } else { v };
-            (lowest, highest, u16::from(c.count) + 1)
-        }
+        None => (Span::of(v), 1),
+        Some(c) => (c.span.with(v), u16::from(c.count) + 1),
     }
 }

@@ -35,6 +35,7 @@ pub struct Command {
     pub step: Step,
 }
 
+// Constant rows, all with the same fields, by a rule of the project (docs/DECISIONS.md, "Fixed forms").
 const COMMANDS: [Command; 12] = [
     Command {
         code: 0x40,
@@ -114,10 +115,5 @@ const COMMANDS: [Command; 12] = [
 pub fn find(code: u8) -> Option<Command>
     ensures { result ≡ row_of code }
 {
-    for command in COMMANDS.iter() {
-        if command.code == code {
-            return Some(*command);
-        }
-    }
-    None
+    COMMANDS.iter().copied().find(|row| row.code == code)
 }

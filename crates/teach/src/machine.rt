@@ -1,45 +1,42 @@
 // The teach machine: its states, and how commands and values take it from one to the next.
+ghost use Rattle.kinds.specs.Meaning.{under};
+ghost use Rattle.teach.specs.Captures.{taken};
+ghost use Rattle.teach.specs.declared.machine.Change.TheVariants.{Keep};
+ghost use Rattle.teach.specs.declared.machine.Verdict.TheVariants.{Open};
 ghost use Rattle.teach.specs.Evaluation.{evaluate_dynamic, evaluate_single, evaluate_two};
-ghost use Rattle.teach.specs.Flags.{both_set};
-ghost use Rattle.teach.specs.Machine.{command_reply, command_state, fed, same_setpoint, with_point};
-ghost use Rattle.std.specs.Prelude.{◌≡◌};
+ghost use Rattle.teach.specs.Flags.{both_set, of_setpoint, with_setpoint};
+ghost use Rattle.teach.specs.Machine.{command_reply, command_state, ended, fed};
+ghost use Rattle.teach.specs.Teachpoints.{with_teachpoint};
+ghost use Rattle.std.specs.Prelude.{◌≡◌, IfNone};
 
-use super::capture::{Captured, with_value};
+use super::capture::{Captured, Span, with_value};
 use super::command::{Command, Setpoint, Step, Teachpoint};
 use super::terms::Terms;
 use faults::{Denial, Fault, Place};
 use kinds::kind::Kind;
 
-// The teachpoints that stand.
-#[derive(Clone, Copy)]
-pub struct Points<K> {
-    pub tp1: Option<K>,
-    pub tp2: Option<K>,
+// What a setpoint's teachpoints have: the values that stand, or flags of those that were captured.
+#[derive(Clone, Copy, Default)]
+pub struct Teachpoints<T> {
+    pub tp1: T,
+    pub tp2: T,
 }
 
 #[derive(Clone, Copy)]
 pub enum State<K> {
     Idle,
     BusySingle(Setpoint, Option<Captured<K>>),
-    BusyTwo(Setpoint, Teachpoint, Option<Captured<K>>, Points<K>),
-    WaitTwo(Setpoint, Points<K>),
+    BusyTwo(Setpoint, Teachpoint, Option<Captured<K>>, Teachpoints<Option<K>>),
+    WaitTwo(Setpoint, Teachpoints<Option<K>>),
     DynStart(Setpoint),
-    // The lowest and the highest value so far.
-    WaitDyn(Setpoint, K, K),
+    WaitDyn(Setpoint, Span<K>),
 }
 
-// Which teachpoints of a setpoint have been captured.
-#[derive(Clone, Copy)]
-pub struct Captures {
-    pub tp1: bool,
-    pub tp2: bool,
-}
-
-// The flags of both setpoints.
-#[derive(Clone, Copy)]
+// The flags of both setpoints: which of their teachpoints have been captured.
+#[derive(Clone, Copy, Default)]
 pub struct Flags {
-    pub sp1: Captures,
-    pub sp2: Captures,
+    pub sp1: Teachpoints<bool>,
+    pub sp2: Teachpoints<bool>,
 }
 
 // What a step does to the flags.
@@ -51,6 +48,7 @@ pub enum Change {
 }
 
 // What a step makes of the teach: it goes on or is dropped, it fails, or it stores a setpoint.
+// The judges answer it and no `Option<Store<K>>`: they are cases of a step, and a step has three outcomes.
 #[derive(Clone, Copy)]
 pub enum Verdict<K> {
     Open,
@@ -65,76 +63,131 @@ pub struct Effect<K> {
     pub verdict: Verdict<K>,
 }
 
-impl Setpoint {
-    fn is(self, other: Setpoint) -> bool
-        ensures { result ≡ same_setpoint self other }
+impl<K> Effect<K> {
+    // The teach goes on, and its flags stay.
+    fn none() -> Effect<K>
+        ensures { result ≡ record { change = Keep; verdict = Open } }
     {
-        match (self, other) {
-            (Setpoint::Sp1, Setpoint::Sp1) => true,
-            (Setpoint::Sp2, Setpoint::Sp2) => true,
-            _ => false,
+        Effect {
+            change: Change::Keep,
+            verdict: Verdict::Open,
+        }
+    }
+
+    // The flags change.
+    fn of(change: Change) -> Effect<K>
+        ensures { result ≡ record { change = change; verdict = Open } }
+    {
+        Effect {
+            change,
+            verdict: Verdict::Open,
+        }
+    }
+
+    // An evaluation ends the teach, and the flags stay.
+    fn judged(verdict: Verdict<K>) -> Effect<K>
+        ensures { result ≡ record { change = Keep; verdict = verdict } }
+    {
+        Effect {
+            change: Change::Keep,
+            verdict,
         }
     }
 }
 
-impl<K: Kind> Points<K> {
-    // The points with one taken again.
-    fn with(self, teachpoint: Teachpoint, v: K) -> Points<K>
-        ensures { result ≡ with_point self teachpoint v }
+impl<T: Copy> Teachpoints<T> {
+    // The same, but for what one teachpoint has.
+    pub(crate) fn with(self, teachpoint: Teachpoint, value: T) -> Teachpoints<T>
+        ensures { result ≡ with_teachpoint self teachpoint value }
     {
         match teachpoint {
-            Teachpoint::Tp1 => Points {
-                tp1: Some(v),
-                tp2: self.tp2,
-            },
-            Teachpoint::Tp2 => Points {
-                tp1: self.tp1,
-                tp2: Some(v),
-            },
+            Teachpoint::Tp1 => Teachpoints { tp1: value, ..self },
+            Teachpoint::Tp2 => Teachpoints { tp2: value, ..self },
         }
     }
 }
 
 impl Flags {
+    // The flags of a setpoint.
+    pub(crate) fn of(self, setpoint: Setpoint) -> Teachpoints<bool>
+        ensures { result ≡ of_setpoint self setpoint }
+    {
+        match setpoint {
+            Setpoint::Sp1 => self.sp1,
+            Setpoint::Sp2 => self.sp2,
+        }
+    }
+
+    // The flags with those of a setpoint replaced.
+    pub(crate) fn with(self, setpoint: Setpoint, flags: Teachpoints<bool>) -> Flags
+        ensures { result ≡ with_setpoint setpoint flags self }
+    {
+        match setpoint {
+            Setpoint::Sp1 => Flags { sp1: flags, ..self },
+            Setpoint::Sp2 => Flags { sp2: flags, ..self },
+        }
+    }
+
     // Whether both teachpoints of a setpoint are flagged.
     fn both(self, setpoint: Setpoint) -> bool
         ensures { result ≡ both_set self setpoint }
     {
-        match setpoint {
-            Setpoint::Sp1 => self.sp1.tp1 && self.sp1.tp2,
-            Setpoint::Sp2 => self.sp2.tp1 && self.sp2.tp2,
-        }
+        let flags = self.of(setpoint);
+        flags.tp1 && flags.tp2
     }
 }
 
-fn judge_single<K: Kind>(terms: Terms, setpoint: Setpoint, lowest: K, highest: K) -> Verdict<K>
-    ensures { result ≡ evaluate_single K.meaning terms setpoint lowest highest }
+// Takes a value into a capture. Once it is complete, its span is answered.
+fn take_value<K: Kind>(captured: &mut Option<Captured<K>>, terms: Terms, v: K) -> Option<Span<K>>
+    ensures ends { result ≡ ended K.meaning terms (taken K.meaning captured.old v) }
+    ensures goes_on { IfNone result (captured.new ≡ Some (taken K.meaning captured.old v)) }
 {
-    if lowest.raise(terms.spread).is_under(highest) {
+    let (span, count) = with_value(*captured, v);
+    if count >= u16::from(terms.capture) {
+        return Some(span);
+    }
+    *captured = Some(Captured {
+        span,
+        count: count as u8,
+    });
+    None
+}
+
+// Whether the highest is below the lowest raised by D.
+fn too_close<K: Kind>(terms: Terms, span: Span<K>) -> bool
+    ensures { result ≡ under K.meaning span.highest (K.meaning.raised span.lowest terms.distance) }
+{
+    span.highest.is_under(span.lowest.raise(terms.distance))
+}
+
+fn judge_single<K: Kind>(terms: Terms, setpoint: Setpoint, span: Span<K>) -> Verdict<K>
+    ensures { result ≡ evaluate_single K.meaning terms setpoint span.lowest span.highest }
+{
+    if span.lowest.raise(terms.spread).is_under(span.highest) {
         Verdict::Fails
     } else {
-        Verdict::Stores(setpoint, lowest.middle(highest))
+        Verdict::Stores(setpoint, span.middle())
     }
 }
 
+// A kind's middle need not be the same both ways round, so this is not `judge_dynamic` of their span.
 fn judge_two<K: Kind>(terms: Terms, setpoint: Setpoint, a: K, b: K) -> Verdict<K>
     ensures { result ≡ evaluate_two K.meaning terms setpoint a b }
 {
-    let (lower, higher) = if a.at_most(b) { (a, b) } else { (b, a) };
-    if higher.is_under(lower.raise(terms.distance)) {
+    if too_close(terms, Span::of(b).with(a)) {
         Verdict::Fails
     } else {
         Verdict::Stores(setpoint, a.middle(b))
     }
 }
 
-fn judge_dynamic<K: Kind>(terms: Terms, setpoint: Setpoint, lowest: K, highest: K) -> Verdict<K>
-    ensures { result ≡ evaluate_dynamic K.meaning terms setpoint lowest highest }
+fn judge_dynamic<K: Kind>(terms: Terms, setpoint: Setpoint, span: Span<K>) -> Verdict<K>
+    ensures { result ≡ evaluate_dynamic K.meaning terms setpoint span.lowest span.highest }
 {
-    if highest.is_under(lowest.raise(terms.distance)) {
+    if too_close(terms, span) {
         Verdict::Fails
     } else {
-        Verdict::Stores(setpoint, lowest.middle(highest))
+        Verdict::Stores(setpoint, span.middle())
     }
 }
 
@@ -154,39 +207,19 @@ impl<K: Kind> State<K> {
         match (&mut *self, command.step) {
             (State::Idle, Step::Single) => {
                 *self = State::BusySingle(named, None);
-                Ok(Effect {
-                    change: Change::Clear(named),
-                    verdict: Verdict::Open,
-                })
+                Ok(Effect::of(Change::Clear(named)))
             }
             (State::Idle, Step::Point) => {
-                *self = State::BusyTwo(
-                    named,
-                    command.teachpoint,
-                    None,
-                    Points {
-                        tp1: None,
-                        tp2: None,
-                    },
-                );
-                Ok(Effect {
-                    change: Change::Clear(named),
-                    verdict: Verdict::Open,
-                })
+                *self = State::BusyTwo(named, command.teachpoint, None, Teachpoints::default());
+                Ok(Effect::of(Change::Clear(named)))
             }
             (State::Idle, Step::Start) => {
                 *self = State::DynStart(named);
-                Ok(Effect {
-                    change: Change::Clear(named),
-                    verdict: Verdict::Open,
-                })
+                Ok(Effect::of(Change::Clear(named)))
             }
-            (State::WaitTwo(sp, points), Step::Point) if sp.is(named) => {
+            (State::WaitTwo(sp, points), Step::Point) if *sp == named => {
                 *self = State::BusyTwo(*sp, command.teachpoint, None, *points);
-                Ok(Effect {
-                    change: Change::Keep,
-                    verdict: Verdict::Open,
-                })
+                Ok(Effect::none())
             }
             (State::WaitTwo(sp, points), Step::Apply) if flags.both(*sp) => {
                 let (Some(a), Some(b)) = (points.tp1, points.tp2) else {
@@ -194,33 +227,21 @@ impl<K: Kind> State<K> {
                 };
                 let verdict = judge_two(terms, *sp, a, b);
                 *self = State::Idle;
-                Ok(Effect {
-                    change: Change::Keep,
-                    verdict,
-                })
+                Ok(Effect::judged(verdict))
             }
-            (State::WaitDyn(sp, _, _), Step::Start) if sp.is(named) => {
+            (State::WaitDyn(sp, _), Step::Start) if *sp == named => {
                 *self = State::DynStart(*sp);
-                Ok(Effect {
-                    change: Change::Keep,
-                    verdict: Verdict::Open,
-                })
+                Ok(Effect::none())
             }
-            (State::WaitDyn(sp, lowest, highest), Step::Stop) if sp.is(named) => {
-                let verdict = judge_dynamic(terms, *sp, *lowest, *highest);
+            (State::WaitDyn(sp, span), Step::Stop) if *sp == named => {
+                let verdict = judge_dynamic(terms, *sp, *span);
                 *self = State::Idle;
-                Ok(Effect {
-                    change: Change::Keep,
-                    verdict,
-                })
+                Ok(Effect::judged(verdict))
             }
-            (State::WaitTwo(sp, _) | State::WaitDyn(sp, _, _), Step::Cancel) => {
+            (State::WaitTwo(sp, _) | State::WaitDyn(sp, _), Step::Cancel) => {
                 let change = Change::Clear(*sp);
                 *self = State::Idle;
-                Ok(Effect {
-                    change,
-                    verdict: Verdict::Open,
-                })
+                Ok(Effect::of(change))
             }
             _ => Err(Fault::at(Denial::NotInState, place)),
         }
@@ -231,70 +252,33 @@ impl<K: Kind> State<K> {
         ensures effect { result ≡ (fed K.meaning terms self.old v).effect }
         ensures state { self.new ≡ (fed K.meaning terms self.old v).state }
     {
+        // State and value are matched together, as state and command in `take` (docs/DECISIONS.md, "Fixed forms").
         match (&mut *self, v) {
             (State::BusySingle(sp, captured), v) => {
-                let (lowest, highest, count) = with_value(*captured, v);
-                if count < u16::from(terms.capture) {
-                    *captured = Some(Captured {
-                        lowest,
-                        highest,
-                        count: count as u8,
-                    });
-                    return Effect {
-                        change: Change::Keep,
-                        verdict: Verdict::Open,
-                    };
-                }
-                let verdict = judge_single(terms, *sp, lowest, highest);
+                let Some(span) = take_value(captured, terms, v) else {
+                    return Effect::none();
+                };
+                let verdict = judge_single(terms, *sp, span);
                 *self = State::Idle;
-                Effect {
-                    change: Change::Keep,
-                    verdict,
-                }
+                Effect::judged(verdict)
             }
             (State::BusyTwo(sp, tp, captured, points), v) => {
-                let (lowest, highest, count) = with_value(*captured, v);
-                if count < u16::from(terms.capture) {
-                    *captured = Some(Captured {
-                        lowest,
-                        highest,
-                        count: count as u8,
-                    });
-                    return Effect {
-                        change: Change::Keep,
-                        verdict: Verdict::Open,
-                    };
-                }
+                let Some(span) = take_value(captured, terms, v) else {
+                    return Effect::none();
+                };
                 let change = Change::Set(*sp, *tp);
-                *self = State::WaitTwo(*sp, points.with(*tp, lowest.middle(highest)));
-                Effect {
-                    change,
-                    verdict: Verdict::Open,
-                }
+                *self = State::WaitTwo(*sp, points.with(*tp, Some(span.middle())));
+                Effect::of(change)
             }
             (State::DynStart(sp), v) => {
-                *self = State::WaitDyn(*sp, v, v);
-                Effect {
-                    change: Change::Keep,
-                    verdict: Verdict::Open,
-                }
+                *self = State::WaitDyn(*sp, Span::of(v));
+                Effect::none()
             }
-            (State::WaitDyn(_, lowest, highest), v) => {
-                if v.at_most(*lowest) {
-                    *lowest = v;
-                }
-                if !v.at_most(*highest) {
-                    *highest = v;
-                }
-                Effect {
-                    change: Change::Keep,
-                    verdict: Verdict::Open,
-                }
+            (State::WaitDyn(_, span), v) => {
+                *span = span.with(v);
+                Effect::none()
             }
-            (State::Idle | State::WaitTwo(_, _), _) => Effect {
-                change: Change::Keep,
-                verdict: Verdict::Open,
-            },
+            (State::Idle | State::WaitTwo(_, _), _) => Effect::none(),
         }
     }
 }

@@ -1,11 +1,11 @@
 // A sensor's teach: the machine with its flags, what was taught since the last select, and whether it failed.
-ghost use Rattle.teach.specs.Flags.{changed, flag_bits, no_flags};
+ghost use Rattle.teach.specs.Flags.{changed, flag_bits};
 ghost use Rattle.teach.specs.Promises.{CancelStoresNothing, CapturesWiden, StoresWithin, TakesExactlyC};
 ghost use Rattle.teach.specs.Teaching.{fed_store, fed_teach, idle as idle_teach, is_idle, known, settled, store_of, taken_reply, taken_teach, teach_result};
 ghost use Rattle.std.specs.Prelude.{◌≡◌};
 
-use super::command::{Command, Setpoint, Teachpoint, find};
-use super::machine::{Captures, Change, Effect, Flags, State, Verdict};
+use super::command::{Command, Setpoint, find};
+use super::machine::{Change, Effect, Flags, State, Teachpoints, Verdict};
 use super::terms::Terms;
 use faults::{Denial, Fault, Place};
 use kinds::kind::Kind;
@@ -13,6 +13,7 @@ use kinds::kind::Kind;
 #[derive(Clone, Copy)]
 pub struct Teach<K> {
     pub flags: Flags,
+    // These three are no states: they outlast a return to Idle, and the state table names Idle alone.
     // Which setpoints were taught since the last select.
     pub taught_sp1: bool,
     pub taught_sp2: bool,
@@ -29,62 +30,27 @@ pub struct Store<K> {
 }
 
 impl Flags {
-    fn none() -> Flags
-        ensures { result ≡ no_flags }
-    {
-        Flags {
-            sp1: Captures {
-                tp1: false,
-                tp2: false,
-            },
-            sp2: Captures {
-                tp1: false,
-                tp2: false,
-            },
-        }
-    }
-
     // The flags after a step.
     fn after(self, change: Change) -> Flags
         ensures { result ≡ changed change self }
     {
-        let Flags { mut sp1, mut sp2 } = self;
         match change {
-            Change::Keep => {}
-            Change::Clear(Setpoint::Sp1) => sp1 = Captures {
-                tp1: false,
-                tp2: false,
-            },
-            Change::Clear(Setpoint::Sp2) => sp2 = Captures {
-                tp1: false,
-                tp2: false,
-            },
-            Change::Set(Setpoint::Sp1, Teachpoint::Tp1) => sp1.tp1 = true,
-            Change::Set(Setpoint::Sp1, Teachpoint::Tp2) => sp1.tp2 = true,
-            Change::Set(Setpoint::Sp2, Teachpoint::Tp1) => sp2.tp1 = true,
-            Change::Set(Setpoint::Sp2, Teachpoint::Tp2) => sp2.tp2 = true,
+            Change::Keep => self,
+            Change::Clear(setpoint) => self.with(setpoint, Teachpoints::default()),
+            Change::Set(setpoint, teachpoint) => {
+                self.with(setpoint, self.of(setpoint).with(teachpoint, true))
+            }
         }
-        Flags { sp1, sp2 }
     }
 
     // The flags in bits 4 to 7: SP1 TP1, SP1 TP2, SP2 TP1, SP2 TP2.
     fn bits(self) -> u8
         ensures { result ≡ flag_bits self }
     {
-        let mut bits = 0;
-        if self.sp1.tp1 {
-            bits += 16;
-        }
-        if self.sp1.tp2 {
-            bits += 32;
-        }
-        if self.sp2.tp1 {
-            bits += 64;
-        }
-        if self.sp2.tp2 {
-            bits += 128;
-        }
-        bits
+        u8::from(self.sp1.tp1) << 4
+            | u8::from(self.sp1.tp2) << 5
+            | u8::from(self.sp2.tp1) << 6
+            | u8::from(self.sp2.tp2) << 7
     }
 }
 
@@ -92,10 +58,7 @@ impl Flags {
 fn known_command(code: u8, place: Place) -> Result<Command, Fault>
     ensures { result ≡ known place code }
 {
-    match find(code) {
-        Some(command) => Ok(command),
-        None => Err(Fault::at(Denial::UnknownCommand, place)),
-    }
+    find(code).ok_or(Fault::at(Denial::UnknownCommand, place))
 }
 
 impl<K: Kind> Teach<K> {
@@ -105,7 +68,7 @@ impl<K: Kind> Teach<K> {
     {
         Teach {
             state: State::Idle,
-            flags: Flags::none(),
+            flags: Flags::default(),
             taught_sp1: false,
             taught_sp2: false,
             failed: false,
@@ -115,10 +78,7 @@ impl<K: Kind> Teach<K> {
     pub fn is_idle(&self) -> bool
         ensures { result ≡ is_idle self.now.state }
     {
-        match self.state {
-            State::Idle => true,
-            _ => false,
-        }
+        matches!(self.state, State::Idle)
     }
 
     // Takes the effect of a step, and answers what is to be stored.
@@ -127,31 +87,24 @@ impl<K: Kind> Teach<K> {
         ensures store { result ≡ store_of effect.verdict }
     {
         self.flags = self.flags.after(effect.change);
-        match (effect.change, effect.verdict) {
-            (Change::Clear(_), Verdict::Open) => {
-                self.failed = false;
+        match effect.verdict {
+            Verdict::Open => {
+                if matches!(effect.change, Change::Clear(_)) {
+                    self.failed = false;
+                }
                 None
             }
-            (_, Verdict::Open) => None,
-            (_, Verdict::Fails) => {
+            Verdict::Fails => {
                 self.failed = true;
                 None
             }
-            (_, Verdict::Stores(Setpoint::Sp1, value)) => {
-                self.taught_sp1 = true;
+            Verdict::Stores(setpoint, value) => {
+                match setpoint {
+                    Setpoint::Sp1 => self.taught_sp1 = true,
+                    Setpoint::Sp2 => self.taught_sp2 = true,
+                }
                 self.failed = false;
-                Some(Store {
-                    setpoint: Setpoint::Sp1,
-                    value,
-                })
-            }
-            (_, Verdict::Stores(Setpoint::Sp2, value)) => {
-                self.taught_sp2 = true;
-                self.failed = false;
-                Some(Store {
-                    setpoint: Setpoint::Sp2,
-                    value,
-                })
+                Some(Store { setpoint, value })
             }
         }
     }
@@ -191,7 +144,7 @@ impl<K: Kind> Teach<K> {
     {
         let state = match self.state {
             State::BusySingle(_, _) | State::BusyTwo(_, _, _, _) | State::DynStart(_) => 5,
-            State::WaitTwo(_, _) | State::WaitDyn(_, _, _) => 4,
+            State::WaitTwo(_, _) | State::WaitDyn(_, _) => 4,
             State::Idle if self.failed => 7,
             State::Idle => u8::from(self.taught_sp1) + 2 * u8::from(self.taught_sp2),
         };

@@ -25,10 +25,7 @@ mod tests {
     };
 
     fn value(n: i16) -> Result<IntegerT16, Fail> {
-        let Some(v) = IntegerT16::read(&n.to_be_bytes()) else {
-            return Err(Fail::new("no value"));
-        };
-        Ok(v)
+        IntegerT16::read(&n.to_be_bytes()).ok_or_else(|| Fail::new("no value"))
     }
 
     fn nothing(rt: &impl Abort, store: Option<Store<IntegerT16>>) {
@@ -41,9 +38,7 @@ mod tests {
         setpoint: Setpoint,
         n: i16,
     ) -> Result<(), Fail> {
-        let Some(store) = store else {
-            return Err(Fail::new("nothing to store"));
-        };
+        let store = store.ok_or_else(|| Fail::new("nothing to store"))?;
         let mut octets = [0; 2];
         assert_eq!(rt; store.value.write(&mut octets), Some(2));
         assert_eq!(rt; octets, n.to_be_bytes());
@@ -59,9 +54,8 @@ mod tests {
         number: u8,
     ) -> Result<(), Fail> {
         let before = teach.result();
-        let Err(fault) = teach.command(TERMS, code, PLACE) else {
-            return Err(Fail::new("not denied"));
-        };
+        let reply = teach.command(TERMS, code, PLACE);
+        let fault = reply.err().ok_or_else(|| Fail::new("not denied"))?;
         assert_eq!(rt; fault.denial.number(), number);
         assert_eq!(rt; teach.result(), before);
         Ok(())

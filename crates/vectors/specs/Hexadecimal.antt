@@ -1,6 +1,5 @@
 -- Octets as two hexadecimal digits, in capitals.
-use Rattle.std.specs.Prelude.{ℕ, ◌+◌, ◌-◌, ◌*◌, ◌<◌, cond, ◌&&◌, List, [], ◌∷◌, length, Some, None, Option, ◌==◌, nat_le}
-use Rattle.std.specs.Borrow.{Bor}
+use Rattle.std.specs.Prelude.{ℕ, ◌+◌, ◌-◌, ◌*◌, cond, ◌&&◌, List, [], ◌∷◌, Some, None, Option, ◌==◌, nat_le}
 use Rattle.std.specs.Str.{bytes_eq}
 
 -- the value of a digit: 0 to 9 are the characters 48 to 57, A to F are 65 to 70
@@ -35,25 +34,6 @@ octets_value (high ∷ []) = None
 octets_value (high ∷ low ∷ []) = before (octet_digits (digit_value high) (digit_value low)) (Some [])
 octets_value (high ∷ low ∷ space ∷ rest) =
     cond (space == 32) (before (octet_digits (digit_value high) (digit_value low)) (octets_value rest)) None
-
--- the octets of what follows, none at the end of the text
-abbrev pub rest_from : Option (Bor (List ℕ)) → Option (List ℕ)
-rest_from None = Some []
-rest_from (Some rest) = octets_value rest.now
-
--- the octets of a text whose first octet, and what follows it, are known
-abbrev pub octets_from : Option (ℕ × Option (Bor (List ℕ))) → Option (List ℕ)
-octets_from None = None
-octets_from (Some first) = before (Some first.0) (rest_from first.1)
-
--- what follows is shorter than so many characters
-abbrev pub RestBelow : Option (Bor (List ℕ)) → ℕ → Type 0
-RestBelow None length_before = Unit {0}
-RestBelow (Some rest) length_before = length rest.now < length_before
-
-abbrev pub Shorter : Option (ℕ × Option (Bor (List ℕ))) → ℕ → Type 0
-Shorter None length_before = Unit {0}
-Shorter (Some first) length_before = RestBelow first.1 length_before
 
 -- the octets of a text, where a dash stands for none
 abbrev pub octets_told : List ℕ → Option (List ℕ)

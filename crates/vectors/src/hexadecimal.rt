@@ -1,10 +1,12 @@
 // Octets in hexadecimal.
-ghost use Rattle.std.specs.Prelude.{◌≡◌, length, IfOk, Some};
-ghost use Rattle.vectors.specs.Hexadecimal.{Shorter, digit_value, octet_value, octets_from, octets_told, octets_value};
+ghost use Rattle.std.specs.Prelude.{◌≡◌, IfOk, Some};
+ghost use Rattle.vectors.specs.Hexadecimal.{digit_value, octet_value, octets_told};
 
 use crate::lines::Unreadable;
 use std::alloc::Global;
 
+// The number of a hexadecimal digit, in capitals. The program `bench` reads small letters too, so its function stands apart:
+// one for both would need a switch.
 fn digit(character: u8) -> Option<u8>
     ensures { result ≡ digit_value character }
 {
@@ -15,51 +17,24 @@ fn digit(character: u8) -> Option<u8>
     }
 }
 
-// The octet of two digits.
-pub(crate) fn octet(text: &[u8]) -> Option<u8>
-    ensures { result ≡ octet_value text.now }
+// The octet of a text, which has to be two digits.
+fn octet(digits: &str) -> Option<u8>
+    ensures { result ≡ octet_value digits.now }
 {
-    let [high, low] = text else {
+    let [high, low] = digits.as_bytes() else {
         return None;
     };
     Some(digit(*high)? * 16 + digit(*low)?)
-}
-
-// The octet that a text begins with, and the text after the space behind it; none at the text's end.
-fn first_octet<'a>(text: &'a [u8]) -> Option<(u8, Option<&'a [u8]>)>
-    ensures value { octets_value text.now ≡ octets_from result }
-    ensures shorter { Shorter result (length text.now) }
-{
-    if text.len() < 2 {
-        return None;
-    }
-    let value = octet(&text[0..2])?;
-    if text.len() == 2 {
-        return Some((value, None));
-    }
-    if text[2] != b' ' {
-        return None;
-    }
-    Some((value, Some(&text[3..])))
 }
 
 // Octets with a space between them, or `-` for none.
 pub(crate) fn octets(heap: Global, text: &str) -> Result<Vec<u8>, Unreadable>
     ensures { IfOk result (λ v. octets_told text.now ≡ Some v.items) }
 {
-    let mut all = Vec::new(heap);
     if text == "-" {
-        return Ok(all);
+        return Ok(Vec::new(heap));
     }
-    let mut rest = text.as_bytes();
-    loop {
-        let Some((value, more)) = first_octet(rest) else {
-            return Err(Unreadable::Octet);
-        };
-        all.push(value)?;
-        let Some(more) = more else {
-            return Ok(all);
-        };
-        rest = more;
-    }
+    text.split(' ')
+        .map(|digits| octet(digits).ok_or(Unreadable::Octet))
+        .try_collect(heap)
 }

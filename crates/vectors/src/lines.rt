@@ -3,7 +3,9 @@ ghost use Rattle.std.specs.Prelude.{◌≡◌, ◌++◌, IfOk};
 
 use crate::hexadecimal::octets;
 use isdu::Direction;
-use std::alloc::{AllocError, AllocFailed, Global};
+use std::alloc::{AllocError, Global};
+use std::str::FromStr;
+use thiserror::Error;
 
 #[derive(Drop)]
 pub(crate) struct Vector {
@@ -13,6 +15,7 @@ pub(crate) struct Vector {
 
 #[derive(Drop)]
 pub(crate) enum Outcome {
+    // A number and no `Denial`: a line may name one that no denial has, and is then told as a mismatch.
     Denied(u8),
     Asks(Expected),
 }
@@ -28,71 +31,43 @@ pub(crate) struct Expected {
 }
 
 // Why a line cannot be read.
-#[derive(Drop)]
+#[derive(Debug, Drop, Error)]
+#[error("cannot be read")]
 pub(crate) enum Unreadable {
-    Memory,
+    Memory(#[from(alloc)] AllocError),
     Octet,
     Number,
     Layout,
-}
-
-impl From<AllocError> for Unreadable {
-    fn from(_error: AllocError) -> Unreadable {
-        Unreadable::Memory
-    }
-}
-
-impl<T: Drop> From<AllocFailed<T>> for Unreadable {
-    fn from(_error: AllocFailed<T>) -> Unreadable {
-        Unreadable::Memory
-    }
 }
 
 // The text before and after the first place of another.
 fn halves<'a>(text: &'a str, between: &str) -> Result<(&'a str, &'a str), Unreadable>
     ensures { IfOk result (λ both. text.now ≡ both.0.now ++ (between.now ++ both.1.now)) }
 {
-    match text.split_once(between) {
-        Some(both) => Ok(both),
-        None => Err(Unreadable::Layout),
-    }
+    text.split_once(between).ok_or(Unreadable::Layout)
 }
 
-// An address is index and subindex in decimal, with a point between them.
-fn address(text: &str) -> Result<(u16, u8), Unreadable> {
-    let (index, subindex) = halves(text, ".")?;
-    match (index.parse::<u16>(), subindex.parse::<u8>()) {
-        (Ok(index), Ok(subindex)) => Ok((index, subindex)),
-        _ => Err(Unreadable::Number),
-    }
+// Each program has its own: a line that cannot be read is told by another enum.
+fn number<N: FromStr>(text: &str) -> Result<N, Unreadable>
+where
+    N::Err: Drop,
+{
+    text.parse::<N>().map_err(|_| Unreadable::Number)
 }
 
-fn denied(text: &str) -> Result<Outcome, Unreadable> {
-    match text.parse::<u8>() {
-        Ok(number) => Ok(Outcome::Denied(number)),
-        Err(_) => Err(Unreadable::Number),
-    }
-}
-
-fn read(heap: Global, text: &str, shortest: Vec<u8>) -> Result<Outcome, Unreadable> {
-    let (index, subindex) = address(text)?;
+// What a request to this address must come to; index and subindex stand in decimal, with a point between them.
+fn asks(
+    direction: Direction,
+    address: &str,
+    data: Vec<u8>,
+    shortest: Vec<u8>,
+) -> Result<Outcome, Unreadable> {
+    let (index, subindex) = halves(address, ".")?;
     Ok(Outcome::Asks(Expected {
-        direction: Direction::Read,
-        index,
-        subindex,
-        data: Vec::new(heap),
-        shortest,
-    }))
-}
-
-fn write(heap: Global, text: &str, shortest: Vec<u8>) -> Result<Outcome, Unreadable> {
-    let (place, data) = halves(text, " ")?;
-    let (index, subindex) = address(place)?;
-    Ok(Outcome::Asks(Expected {
-        direction: Direction::Write,
-        index,
-        subindex,
-        data: octets(heap, data)?,
+        direction,
+        index: number(index)?,
+        subindex: number(subindex)?,
+        data,
         shortest,
     }))
 }
@@ -102,9 +77,22 @@ fn read_outcome(heap: Global, text: &str, frame: &str) -> Result<Outcome, Unread
     let (request, shortest) = text.split_once(" | ").unwrap_or((text, frame));
     let (kind, rest) = halves(request, " ")?;
     match kind {
-        "denied" => denied(rest),
-        "read" => read(heap, rest, octets(heap, shortest)?),
-        "write" => write(heap, rest, octets(heap, shortest)?),
+        "denied" => Ok(Outcome::Denied(number(rest)?)),
+        "read" => asks(
+            Direction::Read,
+            rest,
+            Vec::new(heap),
+            octets(heap, shortest)?,
+        ),
+        "write" => {
+            let (address, data) = halves(rest, " ")?;
+            asks(
+                Direction::Write,
+                address,
+                octets(heap, data)?,
+                octets(heap, shortest)?,
+            )
+        }
         _ => Err(Unreadable::Layout),
     }
 }

@@ -12,16 +12,17 @@ use replays::replay;
 use std::io::{BufRead, BufReader};
 use tally::Tally;
 
-fn run(rt: &HostRuntime) -> anyhow::Result<()> {
+fn main(rt: HostRuntime) -> anyhow::Result<()> {
     let heap = rt.alloc();
-    let mut tally = Tally::new();
-    let mut number = 0u32;
-    for line in BufReader::new(heap, rt.stdin())?.lines(heap) {
+    let mut tally = Tally::default();
+    for (number, line) in (1u64..).zip(BufReader::new(heap, rt.stdin())?.lines(heap)) {
         let line = line?;
-        number = number.saturating_add(1);
-        let Ok(vector) = read_vector(heap, line.as_str()) else {
-            println!(rt; "line {number} cannot be read")?;
-            return Err(anyhow!("unreadable vectors"));
+        let vector = match read_vector(heap, line.as_str()) {
+            Ok(vector) => vector,
+            Err(unreadable) => {
+                println!(rt; "line {number} {unreadable}")?;
+                return Err(anyhow!("unreadable vectors"));
+            }
         };
         let seen = replay(&vector);
         if let Err(mismatch) = &seen {
@@ -31,8 +32,4 @@ fn run(rt: &HostRuntime) -> anyhow::Result<()> {
     }
     println!(rt; "{tally}")?;
     Ok(())
-}
-
-fn main(rt: HostRuntime) -> anyhow::Result<()> {
-    run(&rt)
 }

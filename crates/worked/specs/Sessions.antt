@@ -22,16 +22,13 @@ int16 = integers integer_t16
 abbrev lent : List ℕ → Bor (List ℕ)
 lent octets = record { ref_ptr = (0, 0); now = octets }
 
-abbrev bench_setup : Setup
+abbrev bench_setup : Setup (Bor (List ℕ))
 bench_setup = record {
   serial = 7;
   channels = 1;
-  low = lent (0xff ∷ 0x9c ∷ []);
-  high = lent (0x27 ∷ 0x10 ∷ []);
   scale = pos 0;
-  capture = 1;
-  spread = 0;
-  distance = 10;
+  terms = record { capture = 1; spread = 0; distance = 10 };
+  range = record { low = lent (0xff ∷ 0x9c ∷ []); high = lent (0x27 ∷ 0x10 ∷ []) };
 }
 
 -- the sensor after its set-up

@@ -1,5 +1,5 @@
 // Float32T as a kind of measured value.
-ghost use Rattle.std.specs.Prelude.{◌≡◌, ◌*◌, ◌%◌, ◌^◌, ◌<◌, from_bits, int_le, nat_lt, refl};
+ghost use Rattle.std.specs.Prelude.{◌≡◌, ◌*◌, ◌%◌, ◌^◌, ◌<◌, from_bits, int_le, nat_lt, refl, true};
 ghost use Rattle.kinds.specs.Float32T.{floats, read_pattern};
 ghost use Rattle.numbers.specs.Floats as Floats;
 ghost use Rattle.std.specs.Float.{binary32};
@@ -10,6 +10,7 @@ ghost use Rattle.numbers.proofs.Moves;
 ghost use Rattle.numbers.proofs.Octets.{four_sound};
 ghost use Rattle.numbers.proofs.Options.{some_of};
 ghost use Rattle.kinds.specs.Same.{same_float};
+ghost use Rattle.kinds.specs.Ranks.{floats_ranked};
 ghost use Rattle.kinds.specs.Float32TKindLemmas.{back, low, high, apart};
 
 use crate::float32_t::Float32T;
@@ -30,7 +31,8 @@ fn halfway(x: f32, y: f32) -> f32
     numbers::plain(numbers::between(sum, numbers::lower_of(x, y), numbers::higher_of(x, y)))
 }
 
-// Whether a bit pattern lies below infinity's, whatever its sign.
+// Whether a bit pattern lies below infinity's, whatever its sign. The pattern is asked, as `f32::is_finite` comes too late:
+// `f32::from_bits` is given no pattern of a NaN.
 fn is_finite(pattern: u32) -> bool
     ensures { result ≡ nat_lt (pattern % 2 ^ 31) (255 * 2 ^ 23) }
 {
@@ -40,7 +42,8 @@ fn is_finite(pattern: u32) -> bool
 // The float of a bit pattern, -0 taken as +0.
 fn float_of(pattern: u32) -> f32
     requires { pattern % 2 ^ 31 < 255 * 2 ^ 23 }
-    ensures { result ≡ Floats.plain (from_bits binary32 pattern) }
+    ensures value { result ≡ Floats.plain (from_bits binary32 pattern) }
+    ensures allowed { Floats.proper result ≡ true }
 {
     let x = f32::from_bits(pattern);
     numbers::plain(x)
@@ -50,13 +53,9 @@ fn float_of(pattern: u32) -> f32
 fn value_of(pattern: u32) -> Option<Float32T>
     ensures { result ≡ read_pattern pattern }
 {
-    if is_finite(pattern) {
-        Some(Float32T {
-            value: float_of(pattern),
-        })
-    } else {
-        None
-    }
+    is_finite(pattern).then(|| Float32T {
+        value: float_of(pattern),
+    })
 }
 
 impl Kind for Float32T {
@@ -70,7 +69,17 @@ impl Kind for Float32T {
 
     const STEP: f32 = 0.0009765625;
 
+    ghost OCTET_WIDTH = { 4 };
+
+    ghost LOWEST_END = { floats.low_limit };
+
+    ghost HIGHEST_END = { floats.high_limit };
+
     ghost meaning = { floats };
+
+    ghost ranked = { λ v w. floats_ranked v.value w.value v.allowed w.allowed };
+
+    ghost constants = { (refl, refl, refl) };
 
     ghost lawful = { record {
       width_two_or_four = inr refl;
@@ -92,48 +101,25 @@ impl Kind for Float32T {
       limits_apart = apart;
     } };
 
-    fn width() -> usize {
-        Self::OCTET_WIDTH
-    }
-
-    fn low_limit() -> Float32T {
-        Self::LOWEST_END
-    }
-
-    fn high_limit() -> Float32T {
-        Self::HIGHEST_END
-    }
-
     // -infinity, +infinity, and what is no number.
-    fn below_substitute<'a>() -> &'a [u8] {
+    fn below_substitute() -> &'static [u8] {
         &[0xff, 0x80, 0x00, 0x00]
     }
 
-    fn above_substitute<'a>() -> &'a [u8] {
+    fn above_substitute() -> &'static [u8] {
         &[0x7f, 0x80, 0x00, 0x00]
     }
 
-    fn no_data_substitute<'a>() -> &'a [u8] {
+    fn no_data_substitute() -> &'static [u8] {
         &[0x7f, 0xc0, 0x00, 0x00]
     }
 
     fn read(octets: &[u8]) -> Option<Float32T> {
-        match numbers::from_four(octets) {
-            Some(pattern) => value_of(pattern),
-            None => None,
-        }
+        value_of(numbers::from_four(octets)?)
     }
 
     fn write(self, out: &mut [u8]) -> Option<usize> {
         octets::put(&self.value.to_be_bytes(), out)
-    }
-
-    fn at_most(self, other: Float32T) -> bool {
-        self.value <= other.value
-    }
-
-    fn is_under(self, other: Float32T) -> bool {
-        self.value < other.value
     }
 
     fn raise(self, steps: u16) -> Float32T {

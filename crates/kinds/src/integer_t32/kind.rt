@@ -1,9 +1,8 @@
 // IntegerT32 as a kind of measured value.
 ghost use Rattle.kinds.specs.IntegerT32.{integer_t32};
 ghost use Rattle.kinds.specs.Integers.{integers};
-ghost use Rattle.std.specs.Int.{saturate_to_bits};
-ghost use Rattle.std.specs.Prelude.{◌≡◌, pos, ◌+ℤ◌, ◌-ℤ◌, refl};
-ghost use Rattle.std.specs.Int.Signed.{shr_z, lt_z_yes};
+ghost use Rattle.std.specs.Prelude.{refl};
+ghost use Rattle.std.specs.Int.Signed.{lt_z_yes};
 ghost use Rattle.std.proofs.Common.{inr};
 ghost use Rattle.numbers.proofs.Octets.{four_sound};
 ghost use Rattle.kinds.specs.IntegersLemmas as Integers;
@@ -12,28 +11,8 @@ ghost use Rattle.kinds.specs.Same.{same_t32};
 use crate::integer_t32::IntegerT32;
 use crate::kind::Kind;
 
-// What the number is raised to: it stops at the highest.
-fn up(number: i32, steps: u16) -> i32
-    ensures { result ≡ saturate_to_bits 31 (number +ℤ pos steps) }
-{
-    number.saturating_add(i32::from(steps))
-}
-
-// What the number is lowered to: it stops at the lowest.
-fn down(number: i32, steps: u16) -> i32
-    ensures { result ≡ saturate_to_bits 31 (number -ℤ pos steps) }
-{
-    number.saturating_sub(i32::from(steps))
-}
-
-// Half the sum, rounded down.
-fn halfway(number: i32, other: i32) -> i32
-    ensures { result ≡ shr_z (number +ℤ other) 2 }
-{
-    let sum = i64::from(number) + i64::from(other);
-    (sum >> 1) as i32
-}
-
+// The two integers have an impl each: limits, substitutes and the wider word differ, and a trait over i16 and i32 that gives
+// these has as many lines.
 impl Kind for IntegerT32 {
     const OCTET_WIDTH: usize = 4;
 
@@ -47,7 +26,17 @@ impl Kind for IntegerT32 {
 
     const STEP: f32 = 1.0;
 
+    ghost OCTET_WIDTH = { 4 };
+
+    ghost LOWEST_END = { integer_t32.lowest };
+
+    ghost HIGHEST_END = { integer_t32.highest };
+
     ghost meaning = { integers integer_t32 };
+
+    ghost ranked = { λ v w. refl };
+
+    ghost constants = { (refl, refl, refl) };
 
     ghost lawful = { Integers.lawful integer_t32 (record {
       number_of = λ z h. refl;
@@ -60,66 +49,46 @@ impl Kind for IntegerT32 {
       apart = lt_z_yes tt;
     }) };
 
-    fn width() -> usize {
-        Self::OCTET_WIDTH
-    }
-
-    fn low_limit() -> IntegerT32 {
-        Self::LOWEST_END
-    }
-
-    fn high_limit() -> IntegerT32 {
-        Self::HIGHEST_END
-    }
-
-    fn below_substitute<'a>() -> &'a [u8] {
+    fn below_substitute() -> &'static [u8] {
         &[0x80, 0x00, 0x00, 0x08]
     }
 
-    fn above_substitute<'a>() -> &'a [u8] {
+    fn above_substitute() -> &'static [u8] {
         &[0x7f, 0xff, 0xff, 0xf8]
     }
 
-    fn no_data_substitute<'a>() -> &'a [u8] {
+    fn no_data_substitute() -> &'static [u8] {
         &[0x7f, 0xff, 0xff, 0xfc]
     }
 
     fn read(octets: &[u8]) -> Option<IntegerT32> {
-        match numbers::from_four(octets) {
-            Some(pattern) => Some(IntegerT32 {
-                value: pattern.cast_signed(),
-            }),
-            None => None,
-        }
+        let pattern = numbers::from_four(octets)?;
+        Some(IntegerT32 {
+            value: pattern.cast_signed(),
+        })
     }
 
     fn write(self, out: &mut [u8]) -> Option<usize> {
         octets::put(&self.value.to_be_bytes(), out)
     }
 
-    fn at_most(self, other: IntegerT32) -> bool {
-        self.value <= other.value
-    }
-
-    fn is_under(self, other: IntegerT32) -> bool {
-        self.value < other.value
-    }
-
     fn raise(self, steps: u16) -> IntegerT32 {
         IntegerT32 {
-            value: up(self.value, steps),
+            value: self.value.saturating_add(i32::from(steps)),
         }
     }
 
     fn lower(self, steps: u16) -> IntegerT32 {
         IntegerT32 {
-            value: down(self.value, steps),
+            value: self.value.saturating_sub(i32::from(steps)),
         }
     }
 
+    // Half the sum, rounded down.
     fn middle(self, other: IntegerT32) -> IntegerT32 {
+        let sum = i64::from(self.value) + i64::from(other.value);
         IntegerT32 {
-            value: halfway(self.value, other.value),
+            value: (sum >> 1) as i32,
         }
     }
 }

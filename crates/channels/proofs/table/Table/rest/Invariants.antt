@@ -1,11 +1,7 @@
-use Rattle.std.proofs.Common.{◌≡◌, ◌++◌, map, length, take, drop}
+use Rattle.std.proofs.Common.{◌≡◌, ◌++◌, map, take, drop}
 use Rattle.channels.specs.Table.{rested}
 use Rattle.channels.proofs.table.Table.rest.Given as goal
 
--- the first i rows are at rest
-abbrev pub invariant-loop-i : goal.invariant-loop-i
-invariant-loop-i g l =
-    (l.self.rows ≡ map rested (take l.i l.initial.self.rows) ++ drop l.i l.initial.self.rows)
-    × (l.self.count ≡ l.initial.self.count)
-    × (length l.self.rows ≡ 8)
-    × (length l.initial.self.rows ≡ 8)
+-- the rows so far are at rest
+abbrev pub invariant-loop-row : goal.invariant-loop-row
+invariant-loop-row g l = l.row-items ≡ map rested (take l.row-index l.initial.row-items) ++ drop l.row-index l.initial.row-items

@@ -1,11 +1,16 @@
-use Rattle.std.proofs.Common.{◌≡◌, sym, ap, ◌∙◌}
-use Rattle.octets.specs.Buffers.{left}
+use Rattle.std.proofs.Common.{◌≡◌, length, sym, ap, ◌∙◌, arith, rules}
+use Rattle.octets.specs.Buffers.{left, placed}
+use Rattle.isdu.specs.declared.Direction.TheVariants.{Write}
 use Rattle.isdu.specs.Replies.{write_reply}
 use Rattle.isdu.specs.Views.{asks}
 use Rattle.sensor.specs.Access.{device_or, written}
-use Rattle.sensor.specs.Requests.{Answered, confirms, object_answered, refuses, write_answered}
+use Rattle.sensor.specs.Requests.{Answered, confirms, object_answered, refuses, reply_in, write_answered}
+use Rattle.sensor.proofs.Replying.{delivered_in, left_placed}
 use Rattle.sensor.proofs.Writing.{write_done, write_denied}
 use Rattle.sensor.proofs.device.Device.perform.Goals as goal
+
+pub show-requires : goal.show-requires
+show-requires g c = let shown = c.requires c.in-Read.is in search rules
 
 pub returns-in-Ok : goal.returns-in-Ok
 returns-in-Ok g c =
@@ -15,14 +20,15 @@ returns-in-Ok g c =
     let out = c.args.out.now in
     let o = c.args.object in
     let w = written m d c.place.result o a.octets in
-    let done : confirms m out (device_or d w) ≡ object_answered m c.args.request.now.direction d a out o =
-    write_done m d a out w c.in-Ok.ensures.reply
-    ∙ ap (λ p. write_answered m d a out (written m d p o a.octets)) c.place.ensures
-    ∙ ap (λ x. object_answered m x d a out o) (sym c.in-Write.is) in
+    let done : confirms (device_or d w) ≡ object_answered m c.args.request.now.direction d a o =
+    write_done d w c.in-Ok.ensures.reply
+    ∙ ap (λ p. write_answered d (written m d p o a.octets)) c.place.ensures
+    ∙ ap (λ x. object_answered m x d a o) (sym c.in-Write.is) in
+    let whole = c.confirm_write.ensures.answer ∙ delivered_in write_reply (length out) (omega arith) in
     record {
-      reply = c.confirm_write.ensures.answer ∙ ap (λ (x : Answered _). x.reply) done;
+      reply = whole ∙ ap (λ (x : Answered _). reply_in (length out) x.reply) done;
       device = c.write.ensures.device ∙ ap (λ (x : Answered _). x.device) done;
-      buffer = c.confirm_write.ensures.buffer ∙ ap (λ r. left r write_reply out) c.confirm_write.ensures.answer ∙ ap (λ (x : Answered _). x.buffer) done;
+      buffer = c.confirm_write.ensures.buffer ∙ ap (λ r. left r write_reply out) whole ∙ left_placed write_reply out ∙ ap (λ (x : Answered _). placed x.response out) done;
     }
 
 pub returns-in-Err : goal.returns-in-Err
@@ -34,12 +40,12 @@ returns-in-Err g c =
     let o = c.args.object in
     let w = written m d c.place.result o a.octets in
     let f = c.in-Err.fault in
-    let denied : refuses m (device_or d w) a out f ≡ object_answered m c.args.request.now.direction d a out o =
-    write_denied m d a out w f c.in-Err.ensures.reply
-    ∙ ap (λ p. write_answered m d a out (written m d p o a.octets)) c.place.ensures
-    ∙ ap (λ x. object_answered m x d a out o) (sym c.in-Write.is) in
+    let denied : refuses (device_or d w) Write f ≡ object_answered m c.args.request.now.direction d a o =
+    write_denied d w f c.in-Err.ensures.reply
+    ∙ ap (λ p. write_answered d (written m d p o a.octets)) c.place.ensures
+    ∙ ap (λ x. object_answered m x d a o) (sym c.in-Write.is) in
     record {
-      reply = c.deny.ensures.reply ∙ ap (λ (x : Answered _). x.reply) denied;
+      reply = c.deny.ensures.reply ∙ ap (λ (x : Answered _). reply_in (length out) x.reply) denied;
       device = c.write.ensures.device ∙ ap (λ (x : Answered _). x.device) denied;
-      buffer = c.deny.ensures.buffer ∙ ap (λ (x : Answered _). x.buffer) denied;
+      buffer = c.deny.ensures.buffer ∙ ap (λ (x : Answered _). placed x.response out) denied;
     }

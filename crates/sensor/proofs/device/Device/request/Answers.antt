@@ -1,26 +1,56 @@
-use Rattle.std.proofs.Common.{Bool, cond, length, Err, sym, ap, ◌∙◌, le-ltb, lt-ltb}
+use Rattle.std.proofs.Common.{Bool, cond, length, IfOk, Err, sym, ap, ◌∙◌, subst, arith, le-ltb, lt-ltb}
+use Rattle.std.proofs.lemmas.Result.{err_from_is_err_and}
+use Rattle.octets.specs.Buffers.{over}
 use Rattle.faults.specs.declared.Denial.TheVariants.{ResponseBuffer}
 use Rattle.faults.specs.Denials.{fault}
 use Rattle.isdu.specs.Decoding.{decoded}
-use Rattle.sensor.specs.Requests.{Answered, frame_answered}
+use Rattle.isdu.specs.Views.{asks}
+use Rattle.sensor.specs.Requests.{Answered, IsShown, answered, denies, frame_answered}
+use Rattle.sensor.proofs.Replying.{reply_whole, placed_whole}
 use Rattle.sensor.proofs.device.Device.request.Goals as goal
 
 pub returns-then-out-lt16 : goal.returns-then-out-lt16
 returns-then-out-lt16 g c =
     let d = c.args.self.now in
     let out = c.args.out.now in
-    let short : Answered _ = record { reply = Err (fault ResponseBuffer); device = d; buffer = out } in
-    let e = ap (λ (b : Bool). cond b short (frame_answered g.K.Kind.meaning d (decoded c.args.frame.now) out)) (sym (lt-ltb (length out) 16 c.if-out-lt16.true)) in
-    record { reply = ap Err c.of.ensures ∙ ap (λ (x : Answered _). x.reply) e; device = ap (λ (x : Answered _). x.device) e; buffer = ap (λ (x : Answered _). x.buffer) e }
+    let e = ap (λ (b : Bool). cond b (denies d (fault ResponseBuffer)) (frame_answered g.K.Kind.meaning d (decoded c.args.frame.now))) (sym (lt-ltb (length out) 16 c.if-out-lt16.true)) in
+    record {
+      reply = ap Err c.of.ensures ∙ ap (λ (x : Answered _). x.reply) e;
+      device = ap (λ (x : Answered _). x.device) e;
+      buffer = ap (λ (x : Answered _). over x.response out) e;
+      shown = λ h. absurd (let s = c.if-out-lt16.true in omega arith);
+    }
+
+-- with 16 octets or more the frame decides
+pub returns-in_err-request : goal.returns-in_err-request
+returns-in_err-request g c =
+    let m = g.K.Kind.meaning in
+    let d = c.args.self.now in
+    let out = c.args.out.now in
+    let p = err_from_is_err_and c.from_residual.result c.from_residual.ensures.1 in
+    let e =
+    ap (frame_answered m d) c.in_err-request.ensures.value
+    ∙ ap (λ (b : Bool). cond b (denies d (fault ResponseBuffer)) (frame_answered m d (decoded c.args.frame.now))) (sym (le-ltb (length out) 16 c.if-out-lt16.false)) in
+    record {
+      reply = p.1 ∙ ap Err p.2 ∙ ap (λ (x : Answered _). x.reply) e;
+      device = ap (λ (x : Answered _). x.device) e;
+      buffer = ap (λ (x : Answered _). over x.response out) e;
+      shown = λ h. subst (λ r. IfOk r (IsShown m d)) c.in_err-request.ensures.value tt;
+    }
 
 pub returns : goal.returns
 returns g c =
+    let m = g.K.Kind.meaning in
     let d = c.args.self.now in
     let out = c.args.out.now in
-    let short : Answered _ = record { reply = Err (fault ResponseBuffer); device = d; buffer = out } in
-    let e = ap (λ (b : Bool). cond b short (frame_answered g.K.Kind.meaning d (decoded c.args.frame.now) out)) (sym (le-ltb (length out) 16 c.if-out-lt16.false)) in
+    let a = asks c.in_ok-request.request in
+    let short = c.respond.ensures.short in
+    let e =
+    ap (frame_answered m d) c.in_ok-request.ensures.value
+    ∙ ap (λ (b : Bool). cond b (denies d (fault ResponseBuffer)) (frame_answered m d (decoded c.args.frame.now))) (sym (le-ltb (length out) 16 c.if-out-lt16.false)) in
     record {
-      reply = c.take_frame.ensures.reply ∙ ap (λ (x : Answered _). x.reply) e;
-      device = c.take_frame.ensures.device ∙ ap (λ (x : Answered _). x.device) e;
-      buffer = c.take_frame.ensures.buffer ∙ ap (λ (x : Answered _). x.buffer) e;
+      reply = c.respond.ensures.reply ∙ reply_whole (answered m d a).reply (answered m d a).response (length out) short.0 short.1 c.if-out-lt16.false ∙ ap (λ (x : Answered _). x.reply) e;
+      device = c.respond.ensures.device ∙ ap (λ (x : Answered _). x.device) e;
+      buffer = c.respond.ensures.buffer ∙ placed_whole (answered m d a).response out short.0 c.if-out-lt16.false ∙ ap (λ (x : Answered _). over x.response out) e;
+      shown = λ h. subst (λ r. IfOk r (IsShown m d)) c.in_ok-request.ensures.value c.respond.ensures.shown;
     }

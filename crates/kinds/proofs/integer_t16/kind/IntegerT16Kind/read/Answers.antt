@@ -6,10 +6,7 @@ use Rattle.kinds.specs.IntegerT16.{integer_t16}
 use Rattle.kinds.specs.Same.{same_t16}
 use Rattle.kinds.proofs.integer_t16.kind.IntegerT16Kind.read.Goals as goal
 
-pub returns-in-Some : goal.returns-in-Some
-returns-in-Some c =
+pub returns : goal.returns
+returns c =
     ap Some (same_t16 _ _ (to_z-of_z w16 c.cast_signed.result (record { sfits = c.cast_signed.type_inv }) ∙ c.cast_signed.ensures))
-    ∙ ap (λ (o : Option ℕ). when_some o (of_pattern integer_t16)) c.in-Some.ensures
-
-pub returns-in-None : goal.returns-in-None
-returns-in-None c = ap (λ (o : Option ℕ). when_some o (of_pattern integer_t16)) c.in-None.ensures
+    ∙ ap (λ (o : Option ℕ). when_some o (of_pattern integer_t16)) c.in_ok-pattern.ensures

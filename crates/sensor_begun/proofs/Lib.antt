@@ -1,4 +1,0 @@
-mod Reading
-mod Replying
-mod Sizes
-mod Writing

@@ -1,7 +1,0 @@
-pub mod Access
-pub mod Calls
-pub mod Devices
-pub mod Keypad
-pub mod Requests
-pub mod Samples
-pub mod Setups
