@@ -20,7 +20,8 @@ fn put(out: &mut [u8], at: usize, octets: &[u8]) -> usize
     end
 }
 
-// Writes service and length of a frame that has `size` octets without a second length octet.
+// Writes service and length of a frame that has `size` octets without a second length octet. `as` and no `try_from`: that
+// nothing is lost is proved, and an `Err` could not come.
 fn put_heading(out: &mut [u8], digit: Digit, size: usize) -> usize
     requires small { size < 238 }
     requires room { length (shortest_heading digit.value size) ≤ length out.old }

@@ -20,7 +20,7 @@ pub enum Object {
     Configuration(u8),
 }
 
-// The channel that an index belongs to, if any.
+// The channel that an index belongs to, if any. `as` and no `try_from`: that nothing is lost is proved.
 fn channel_of(index: u16) -> Option<u8>
     ensures { result ≡ channel_of index }
 {

@@ -22,6 +22,7 @@ pub struct Sensor<K> {
     pub(super) device: Option<Device<K>>,
 }
 
+// A function for the one call of `contains`, as the definition of the checks has one.
 fn is_from_to(n: u8, first: u8, last: u8) -> bool
     ensures { result ≡ from_to first last n }
 {

@@ -137,7 +137,8 @@ impl Flags {
     }
 }
 
-// Takes a value into a capture. Once it is complete, its span is answered.
+// Takes a value into a capture. Once it is complete, its span is answered. The count is narrowed by `as` and no `try_from`:
+// that nothing is lost is proved.
 fn take_value<K: Kind>(captured: &mut Option<Captured<K>>, terms: Terms, v: K) -> Option<Span<K>>
     ensures ends { result ≡ ended K.meaning terms (taken K.meaning captured.old v) }
     ensures goes_on { IfNone result (captured.new ≡ Some (taken K.meaning captured.old v)) }
