@@ -1,20 +1,34 @@
 #!/usr/bin/env python3
-"""ISDU request frames, good and damaged, with what each asks for or is denied with.
+"""ISDU request frames, good and damaged, with what each asks for or is denied with, and what a sensor answers.
 
-Written from the frame's layout alone, as a second opinion on the crate `isdu`. Always the same output.
+The frames are written from their layout alone, as a second opinion on the crate `isdu`. What a sensor answers comes from
+the sensor in `bench_expected`, which is taken through the same requests. Always the same output.
 To make the files of the program `vectors` again:
 
     python3 tools/isdu_vectors.py > crates/vectors/stdin
     python3 tools/isdu_vectors.py --summary > crates/vectors/stdout
 
-A line is octets, `=` and an outcome; `-` stands for no octets:
+A line of a frame is octets, `=` and an outcome; `-` stands for no octets:
 
     26 3C 01 03 E8 F0 = write 60.1 03 E8     the octets ask for this, and are its shortest frame
     A4 3B 00 9F = read 59.0 | 93 3B A8       they ask for this, and after the bar is its shortest frame
     93 3B A9 = denied 9                      they are denied with this number
+
+A line of requests is one or more frames, `>` and the answer that each of them has from the sensor, in this order. The octets
+of a frame and of a response stand without spaces:
+
+    263C0103E8F0 > 5252                      the whole response to an accepted request
+    9363F0 9364F7 > denied 11 C4801155       the denial and the whole response
+    933BA9 > denied 9                        the denial; nothing is written
+
+A new sensor is set up by a line of this form; before the first the sensor is blank:
+
+    sensor int16 serial=7 channels=8 low=FF9C high=2710 scale=-1 capture=1 spread=0 distance=10
 """
 
 import sys
+
+import bench_expected
 
 LENGTH, CHECK, SERVICE = 8, 9, 10
 
@@ -67,10 +81,12 @@ def hexadecimal(octets):
 class Vectors:
     def __init__(self):
         self.lines = []
+        self.frames = []
         self.counts = {"read": 0, "write": 0, "itself": 0, "shorter": 0, LENGTH: 0, CHECK: 0, SERVICE: 0}
 
     def denied(self, octets, number):
         self.lines.append(f"{hexadecimal(octets)} = denied {number}")
+        self.frames.append(octets)
         self.counts[number] += 1
 
     def asks(self, form, index, subindex, data):
@@ -84,6 +100,7 @@ class Vectors:
         if octets != shortest:
             line += " | " + hexadecimal(shortest)
         self.lines.append(line)
+        self.frames.append(octets)
         self.counts[kind] += 1
         self.counts["itself" if octets == shortest else "shorter"] += 1
         return octets
@@ -95,7 +112,6 @@ class Vectors:
             f"decoded: {counts['read']} reads, {counts['write']} writes",
             f"composed: {counts['itself']} as they were, {counts['shorter']} in a shorter form",
             f"denied: {counts[LENGTH]} with 8, {counts[CHECK]} with 9, {counts[SERVICE]} with 10",
-            "mismatches: 0",
         ]
 
 
@@ -215,10 +231,191 @@ def all_vectors():
     return vectors
 
 
+COMMAND, SELECT, RESULT = 2, 58, 59
+SETPOINTS = [60, 62, 0x4000, 0x4002, 0x4004, 0x4006, 0x4008, 0x400A]
+CONFIGURATIONS = [index + 1 for index in SETPOINTS]
+OBJECTS = [COMMAND, SELECT, RESULT, *sorted(SETPOINTS + CONFIGURATIONS)]
+SUBINDICES = (0, 1, 2, 3, 4, 0xFF)
+
+# Of each kind the ends of the range, setpoints within it, and octets that are refused: above, below, no value.
+RANGES = {"int16": ("FF9C", "2710"), "int32": ("FFF0BDC0", "000F4240"), "float32": ("BFC00000", "447A0000")}
+TAKEN = {"int16": "03E8 0000 FFFF", "int32": "000003E8 00000000 FFFFFFFF", "float32": "41200000 80000000 00000001"}
+REFUSED = {
+    "int16": "2711 7FFC 7FFF FF9B 8008 8000",
+    "int32": "000F4241 7FFFFFFC 7FFFFFFF FFF0BDBF 80000008 80000000",
+    "float32": "447A0001 BFC00001 7FC00000 7F800000 FF800000 7F800001",
+}
+
+
+def joined(octets):
+    return bytes(octets).hex().upper() or "-"
+
+
+class Requests:
+    """Requests to sensors of `bench_expected`, one after the other. Those in a row with the same answer share a line."""
+
+    LONGEST = 256
+
+    def __init__(self):
+        self.lines = []
+        self.sensor = bench_expected.Sensor(bench_expected.KINDS["int16"])
+        self.frames, self.answer = [], None
+        self.accepted, self.denied = 0, {}
+
+    def end_line(self):
+        if self.frames:
+            self.lines.append(f"{' '.join(self.frames)} > {self.answer}")
+        self.frames = []
+
+    def set_up(self, kind, channels):
+        self.end_line()
+        low, high = RANGES[kind]
+        fields = {"serial": 7, "channels": channels, "low": low, "high": high, "scale": -1}
+        fields |= {"capture": 1, "spread": 0, "distance": 10}
+        self.lines.append(f"sensor {kind} " + " ".join(f"{key}={value}" for key, value in fields.items()))
+        self.sensor = bench_expected.Sensor(bench_expected.KINDS[kind])
+        self.sensor.setup(fields | {"low": bytes.fromhex(low), "high": bytes.fromhex(high)})
+        self.taken = [bytes.fromhex(text) for text in (low, *TAKEN[kind].split(), high)]
+        self.refused = [bytes.fromhex(text) for text in REFUSED[kind].split()]
+
+    def answer_to(self, octets):
+        try:
+            response = self.sensor.request(bytes(octets), 16)
+            self.accepted += 1
+            return joined(response)
+        except bench_expected.Denied as denied:
+            self.denied[denied.number] = self.denied.get(denied.number, 0) + 1
+            response = f" {joined(denied.octets)}" if hasattr(denied, "octets") else ""
+            return f"denied {denied.number}{response}"
+
+    def send(self, octets):
+        """Sends a frame, and tells whether it is accepted."""
+        answer = self.answer_to(octets)
+        if answer != self.answer or len(self.frames) == self.LONGEST:
+            self.end_line()
+        self.frames.append(joined(octets))
+        self.answer = answer
+        return not answer.startswith("denied")
+
+    def read(self, index, subindex=0):
+        self.send(request_frame(shortest_form(index, subindex), index, subindex, []))
+
+    def write(self, index, subindex, octets):
+        """Writes an object, and if that is accepted reads it whole; after a command the result of the teach."""
+        accepted = self.send(request_frame(shortest_form(index, subindex), index, subindex, list(octets)))
+        if accepted:
+            self.read(RESULT if index == COMMAND else index)
+        return accepted
+
+    def summary(self):
+        return [
+            f"requests: {self.accepted + sum(self.denied.values())}",
+            f"accepted: {self.accepted}",
+            *(f"denied with {number}: {count}" for number, count in sorted(self.denied.items())),
+        ]
+
+
+def every_part(requests):
+    """Reads of every part of every object, and of subindices that it does not have."""
+    for index in OBJECTS:
+        for subindex in SUBINDICES:
+            requests.read(index, subindex)
+
+
+def fitting(requests, index, subindex, turn):
+    """Ten octets, of which the first are taken where they are as many as the object or the part has."""
+    if index in SETPOINTS:
+        first, second = requests.taken[turn % 5], requests.taken[(turn + 1) % 5]
+        return ((second if subindex == 2 else first + second) * 5)[:10]
+    if index in CONFIGURATIONS:
+        whole = [1, turn % 4, turn, 0xFF]
+        return ((whole[subindex - 1 :] if subindex in (1, 2, 3) else whole) * 10)[:10]
+    return [0x41 if index == COMMAND else 2] * 10
+
+
+def every_length(requests):
+    """Writes of 1 to 10 octets to every part of every object, and to subindices that it does not have."""
+    for turn, index in enumerate(OBJECTS):
+        for subindex in SUBINDICES:
+            octets = fitting(requests, index, subindex, turn)
+            for count in range(1, 11):
+                requests.write(index, subindex, octets[:count])
+
+
+def setpoints(requests):
+    """Every pair of setpoints, taken and refused, to channel 1, and each of them alone to every channel."""
+    values = requests.taken + requests.refused
+    for first in values:
+        for second in values:
+            requests.write(SETPOINTS[0], 0, first + second)
+    for index in SETPOINTS:
+        for value in values:
+            requests.write(index, 1, value)
+            requests.write(index, 2, value)
+
+
+def configurations(requests):
+    logics, modes = (0, 1, 2, 0xFF), (0, 1, 2, 3, 4, 0xFF)
+    for index in CONFIGURATIONS:
+        for logic in logics:
+            requests.write(index, 1, [logic])
+            for mode in modes:
+                requests.write(index, 0, [logic, mode, index & 0xFF, mode])
+        for mode in modes:
+            requests.write(index, 2, [mode])
+        for hysteresis in ([0x00, 0x00], [0x00, 0xFF], [0x12, 0x34], [0xFF, 0xFF]):
+            requests.write(index, 3, hysteresis)
+
+
+def selects(requests):
+    for channel in (*range(11), 0xFF):
+        requests.write(SELECT, 0, [channel])
+
+
+def commands(requests):
+    """Every command with the teach idle, and after each that is accepted those of the table again."""
+    for code in range(0x100):
+        if requests.write(COMMAND, 0, [code]):
+            for after in range(0x3F, 0x51):
+                requests.write(COMMAND, 0, [after])
+            requests.write(SELECT, 0, [code % 9])
+
+
+def written_over(requests, kind, channels):
+    """A new sensor is written to all over; a channel is selected and its teach begun. It is read before and after."""
+    requests.set_up(kind, channels)
+    every_part(requests)
+    for part in (selects, commands, setpoints, configurations, every_length):
+        part(requests)
+    requests.write(SELECT, 0, [3])
+    requests.write(COMMAND, 0, [0x45])
+    every_part(requests)
+
+
+def all_requests(frames):
+    requests = Requests()
+    requests.read(RESULT)
+    written_over(requests, "int16", 8)
+    for octets in frames:
+        requests.send(octets)
+    for index in range(0x10000):
+        requests.read(index)
+    written_over(requests, "int32", 8)
+    written_over(requests, "float32", 8)
+    written_over(requests, "int16", 3)
+    requests.end_line()
+    return requests
+
+
 def main():
     vectors = all_vectors()
-    lines = vectors.summary() if sys.argv[1:] == ["--summary"] else vectors.lines
+    requests = all_requests(vectors.frames)
+    if sys.argv[1:] == ["--summary"]:
+        lines = [*vectors.summary(), *requests.summary(), "mismatches: 0"]
+    else:
+        lines = vectors.lines + requests.lines
     sys.stdout.write("\n".join(lines) + "\n")
 
 
-main()
+if __name__ == "__main__":
+    main()

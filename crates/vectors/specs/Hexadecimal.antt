@@ -1,6 +1,8 @@
--- Octets as two hexadecimal digits, in capitals.
-use Rattle.std.specs.Prelude.{ℕ, ◌+◌, ◌-◌, ◌*◌, cond, ◌&&◌, List, [], ◌∷◌, Some, None, Option, ◌==◌, nat_le}
+-- Octets as two hexadecimal digits: in capitals where a space stands between the octets, else in either case.
+use Rattle.std.specs.Prelude.{ℕ, ◌+◌, ◌-◌, ◌*◌, cond, ◌&&◌, List, [], ◌∷◌, Some, None, Option, ◌==◌, nat_le, Ok, Result}
 use Rattle.std.specs.Str.{bytes_eq}
+use Rattle.hex.specs.Hex.{decode_of}
+use Rattle.hex.specs.declared.error.FromHexError.{FromHexError}
 
 -- the value of a digit: 0 to 9 are the characters 48 to 57, A to F are 65 to 70
 abbrev pub digit_value : ℕ → Option ℕ
@@ -38,3 +40,7 @@ octets_value (high ∷ low ∷ space ∷ rest) =
 -- the octets of a text, where a dash stands for none
 abbrev pub octets_told : List ℕ → Option (List ℕ)
 octets_told text = cond (bytes_eq text (45 ∷ [])) (Some []) (octets_value text)
+
+-- the octets of a text with nothing between the digits, where a dash stands for none
+abbrev pub joined_told : List ℕ → Result (List ℕ) FromHexError
+joined_told text = cond (bytes_eq text (45 ∷ [])) (Ok []) (decode_of text)

@@ -1,6 +1,6 @@
 // Octets in hexadecimal.
-ghost use Rattle.std.specs.Prelude.{◌≡◌, IfOk, Some};
-ghost use Rattle.vectors.specs.Hexadecimal.{digit_value, octet_value, octets_told};
+ghost use Rattle.std.specs.Prelude.{◌≡◌, IfOk, Ok, Some};
+ghost use Rattle.vectors.specs.Hexadecimal.{digit_value, joined_told, octet_value, octets_told};
 
 use crate::lines::Unreadable;
 use std::alloc::Global;
@@ -37,4 +37,14 @@ pub(crate) fn octets(heap: Global, text: &str) -> Result<Vec<u8>, Unreadable>
     text.split(' ')
         .map(|digits| octet(digits).ok_or(Unreadable::Octet))
         .try_collect(heap)
+}
+
+// Octets with nothing between them, or `-` for none.
+pub(crate) fn joined(heap: Global, text: &str) -> Result<Vec<u8>, Unreadable>
+    ensures { IfOk result (λ v. joined_told text.now ≡ Ok v.items) }
+{
+    if text == "-" {
+        return Ok(Vec::new(heap));
+    }
+    hex::decode(heap, text).map_err(|_| Unreadable::Octet)
 }

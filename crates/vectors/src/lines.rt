@@ -1,11 +1,23 @@
-// The lines of the vectors: octets, `=` and what they must decode to.
+// The lines of the vectors: what a frame must decode to, a sensor's set-up, or requests and what they are answered with.
 ghost use Rattle.std.specs.Prelude.{◌≡◌, ◌++◌, IfOk};
 
-use crate::hexadecimal::octets;
+use crate::answers::Answer;
+use crate::hexadecimal::{joined, octets};
+use crate::sensors::KindName;
+use channels::range::Range;
 use isdu::Direction;
+use sensor::setup::Setup;
 use std::alloc::{AllocError, Global};
 use std::str::FromStr;
+use teach::terms::Terms;
 use thiserror::Error;
+
+#[derive(Drop)]
+pub(crate) enum Line {
+    Frame(Vector),
+    Sensor(KindName, Setup<Vec<u8>>),
+    Requests(Requests),
+}
 
 #[derive(Drop)]
 pub(crate) struct Vector {
@@ -28,6 +40,13 @@ pub(crate) struct Expected {
     pub(crate) subindex: u8,
     pub(crate) data: Vec<u8>,
     pub(crate) shortest: Vec<u8>,
+}
+
+// Frames for a sensor, each of which has the same answer.
+#[derive(Drop)]
+pub(crate) struct Requests {
+    pub(crate) frames: Vec<Vec<u8>>,
+    pub(crate) answer: Answer,
 }
 
 // Why a line cannot be read.
@@ -97,10 +116,83 @@ fn read_outcome(heap: Global, text: &str, frame: &str) -> Result<Outcome, Unread
     }
 }
 
-pub(crate) fn read_vector(heap: Global, line: &str) -> Result<Vector, Unreadable> {
+fn read_vector(heap: Global, line: &str) -> Result<Vector, Unreadable> {
     let (frame, right) = halves(line, " = ")?;
     Ok(Vector {
         octets: octets(heap, frame)?,
         outcome: read_outcome(heap, right, frame)?,
     })
+}
+
+// The response, or `denied`, a number and the response, if there is one.
+fn read_answer(heap: Global, text: &str) -> Result<Answer, Unreadable> {
+    let Some(denied) = text.strip_prefix("denied ") else {
+        return Ok(Answer {
+            denied: None,
+            response: joined(heap, text)?,
+        });
+    };
+    let (denial, response) = denied.split_once(" ").unwrap_or((denied, "-"));
+    Ok(Answer {
+        denied: Some(number(denial)?),
+        response: joined(heap, response)?,
+    })
+}
+
+fn read_requests(heap: Global, frames: &str, answer: &str) -> Result<Requests, Unreadable> {
+    Ok(Requests {
+        frames: frames
+            .split(' ')
+            .map(|frame| joined(heap, frame))
+            .try_collect(heap)?,
+        answer: read_answer(heap, answer)?,
+    })
+}
+
+// The value of the first field, which has to have this key, and the fields after it.
+fn field<'a>(fields: &'a str, key: &str) -> Result<(&'a str, &'a str), Unreadable> {
+    let (first, rest) = fields.split_once(" ").unwrap_or((fields, ""));
+    let (found, value) = halves(first, "=")?;
+    if found == key {
+        Ok((value, rest))
+    } else {
+        Err(Unreadable::Layout)
+    }
+}
+
+// The fields stand in this order.
+fn read_setup(heap: Global, fields: &str) -> Result<Setup<Vec<u8>>, Unreadable> {
+    let (serial, fields) = field(fields, "serial")?;
+    let (channels, fields) = field(fields, "channels")?;
+    let (low, fields) = field(fields, "low")?;
+    let (high, fields) = field(fields, "high")?;
+    let (scale, fields) = field(fields, "scale")?;
+    let (capture, fields) = field(fields, "capture")?;
+    let (spread, fields) = field(fields, "spread")?;
+    let (distance, _) = field(fields, "distance")?;
+    Ok(Setup {
+        serial: number(serial)?,
+        channels: number(channels)?,
+        scale: number(scale)?,
+        terms: Terms {
+            capture: number(capture)?,
+            spread: number(spread)?,
+            distance: number(distance)?,
+        },
+        range: Range {
+            low: joined(heap, low)?,
+            high: joined(heap, high)?,
+        },
+    })
+}
+
+pub(crate) fn read_line(heap: Global, line: &str) -> Result<Line, Unreadable> {
+    if let Some(setup) = line.strip_prefix("sensor ") {
+        let (kind, fields) = halves(setup, " ")?;
+        return Ok(Line::Sensor(kind.parse()?, read_setup(heap, fields)?));
+    }
+    match line.split_once(" > ") {
+        Some((frames, answer)) => Ok(Line::Requests(read_requests(heap, frames, answer)?)),
+        None => Ok(Line::Frame(read_vector(heap, line)?)),
+    }
 }

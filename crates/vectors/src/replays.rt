@@ -17,7 +17,7 @@ pub(crate) enum Seen {
     Asked { direction: Direction, shorter: bool },
 }
 
-// What a vector's octets came to against its line.
+// What a call came to against its line.
 #[derive(Clone, Copy, Debug, Error)]
 pub(crate) enum Mismatch {
     #[error("decoded")]
@@ -30,6 +30,10 @@ pub(crate) enum Mismatch {
     ComposeDenied(Denial),
     #[error("composed as another frame")]
     OtherFrame,
+    #[error("accepted")]
+    Accepted,
+    #[error("another response")]
+    OtherResponse,
 }
 
 fn replay_denied(fault: Fault, number: u8) -> Result<Seen, Mismatch>

@@ -1,4 +1,4 @@
-// How many vectors came to what.
+// How many vectors and requests came to what.
 use crate::replays::{Mismatch, Seen};
 use faults::Denial;
 use isdu::Direction;
@@ -30,7 +30,33 @@ pub(crate) struct Tally {
     lengths: Counter,
     checks: Counter,
     services: Counter,
+    requests: Counter,
+    accepted: Counter,
+    refused: Refused,
     mismatches: Counter,
+}
+
+// How many requests were denied with each number: 27 is the highest.
+#[derive(Clone, Copy, Default)]
+struct Refused([Counter; 28]);
+
+impl Refused {
+    fn count(&mut self, denial: Denial) {
+        if let Some(counter) = self.0.get_mut(usize::from(denial.number())) {
+            counter.count();
+        }
+    }
+}
+
+impl fmt::Display for Refused {
+    fn fmt<W: fmt::Write>(&self, f: &mut fmt::Formatter<W>) -> fmt::Result {
+        for (number, counter) in (0u8..).zip(&self.0) {
+            if counter.0 > 0 {
+                writeln!(f, "denied with {number}: {counter}")?;
+            }
+        }
+        Ok(())
+    }
 }
 
 impl Tally {
@@ -41,6 +67,19 @@ impl Tally {
             Ok(Seen::Denied(denial)) => self.count_denied(denial),
             Err(_) => self.mismatches.count(),
         }
+    }
+
+    pub(crate) fn count_request(&mut self, seen: Result<Option<Denial>, Mismatch>) {
+        self.requests.count();
+        match seen {
+            Ok(None) => self.accepted.count(),
+            Ok(Some(denial)) => self.refused.count(denial),
+            Err(_) => self.mismatches.count(),
+        }
+    }
+
+    pub(crate) fn count_mismatch(&mut self) {
+        self.mismatches.count();
     }
 
     fn count_asked(&mut self, direction: Direction, shorter: bool) {
@@ -79,6 +118,9 @@ impl fmt::Display for Tally {
             "denied: {} with 8, {} with 9, {} with 10",
             self.lengths, self.checks, self.services
         )?;
+        writeln!(f, "requests: {}", self.requests)?;
+        writeln!(f, "accepted: {}", self.accepted)?;
+        write!(f, "{}", self.refused)?;
         write!(f, "mismatches: {}", self.mismatches)
     }
 }
