@@ -31,6 +31,7 @@ module _ {V : Type 0} where
     channels = d.channels;
   }
 
+  -- n is over the number of channels that are present
   abbrev pub past_count : Device V → ℕ → Bool
   past_count d n = nat_lt (rows_present d.channels) n
 
@@ -38,6 +39,7 @@ module _ {V : Type 0} where
   abbrev pub selected_by : Device V → Place → ℕ → Result (Device V) Fault
   selected_by d place n = cond (past_count d n) (Err (fault_at NoValue place)) (Ok (with_selection d (max n 1)))
 
+  -- a command that is taken: the teach after it, and what it completes is stored
   abbrev pub settled_by : Device V → Teach V → Result (Option (Store V)) Fault → Result (Device V) Fault
   settled_by d t (Ok s) = Ok (stored (with_teach d t) s)
   settled_by d t (Err f) = Err f

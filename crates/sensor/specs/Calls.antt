@@ -8,7 +8,7 @@ use Rattle.sensor.specs.declared.sensor.Sensor.{Sensor}
 use Rattle.sensor.specs.Access.{device_or}
 
 module _ {V : Type 0} (call : Device V → Result (Device V) Fault) where
-  abbrev outcome_by : Option (Device V) → Result (Device V) Fault
+  abbrev pub outcome_by : Option (Device V) → Result (Device V) Fault
   outcome_by None = Err (fault Blank)
   outcome_by (Some d) = call d
 
@@ -16,7 +16,7 @@ module _ {V : Type 0} (call : Device V → Result (Device V) Fault) where
   abbrev pub outcome : Sensor V → Result (Device V) Fault
   outcome s = outcome_by s.device
 
-  abbrev left_by : Option (Device V) → Option (Device V)
+  abbrev pub left_by : Option (Device V) → Option (Device V)
   left_by None = None
   left_by (Some d) = Some (device_or d (call d))
 

@@ -3,5 +3,6 @@ pub mod Calls
 pub mod Devices
 pub mod Keypad
 pub mod Requests
+pub mod Restarts
 pub mod Samples
 pub mod Setups

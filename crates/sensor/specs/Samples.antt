@@ -16,7 +16,7 @@ use Rattle.teach.specs.Teaching.{fed_store, fed_teach}
 use Rattle.sensor.specs.Devices.{stored, with_channels, with_teach}
 
 module _ {V : Type 0} (m : Meaning V) where
-  abbrev valued : Option V → Option (Reading V)
+  abbrev pub valued : Option V → Option (Reading V)
   valued None = None
   valued (Some v) = Some (Value v)
 

@@ -1,4 +1,4 @@
--- Set-up: its checks in their order, and the sensor's first day.
+-- Set-up: its checks in their order, and the sensor after it.
 use Rattle.std.specs.Prelude.{ℕ, Bool, false, cond, not, ◌&&◌, List, ℤ, Some, None, Ok, Err, Option, Result}
 use Rattle.std.specs.Borrow.{Bor}
 use Rattle.std.specs.Int.{w8}
@@ -31,7 +31,7 @@ module _ {V : Type 0} where
   abbrev pub keypad_open : Sensor V → Bool
   keypad_open s = open_in s.device
 
-  -- the device on its first day: every channel fresh, channel 1 selected, the teach idle, no keypad operation open
+  -- the device after an accepted set-up: every channel fresh, channel 1 selected, the teach idle, no keypad operation open
   abbrev pub fresh_device : Setup Lent → V → V → Device V
   fresh_device g low high = record {
     serial = g.serial;
@@ -61,7 +61,7 @@ module _ {V : Type 0} (m : Meaning V) where
       (Ok (fresh_device g low high)))
 
   -- 17: an end is no value
-  abbrev ends_checked : Setup Lent → Option V → Option V → Result (Device V) Fault
+  abbrev pub ends_checked : Setup Lent → Option V → Option V → Result (Device V) Fault
   ends_checked g None high = Err (fault NoValue)
   ends_checked g (Some low) None = Err (fault NoValue)
   ends_checked g (Some low) (Some high) = range_checked g low high

@@ -6,5 +6,6 @@ pub mod device;
 pub mod keypad;
 pub mod reads;
 pub mod respond;
+pub mod restart;
 pub mod sensor;
 pub mod setup;

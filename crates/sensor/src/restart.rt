@@ -24,7 +24,7 @@ impl<K: Kind> Sensor<K> {
         ensures reply { result ≡ restart_reply self.old }
         ensures sensor { self.new ≡ restart_after self.old }
     {
-        let device = self.device.as_mut().ok_or(Fault::of(Denial::Blank))?;
+        let device = self.device.as_mut().ok_or(Denial::Blank)?;
         device.restart();
         Ok(())
     }
