@@ -47,7 +47,7 @@ module _ {V : Type 0} (m : Meaning V) (P : Fixed V) where
   answer_of h d (Ok a) = record { reply = Ok (length (request_granted m P a)); device = device_of m P (done m P h a); response = request_granted m P a }
   answer_of h d (Err f) = record { reply = Err f; device = device_of m P h; response = negative m P d f }
 
-  abbrev device_result : Held V → Result (Act V) Fault → Result (Device V) Fault
+  abbrev pub device_result : Held V → Result (Act V) Fault → Result (Device V) Fault
   device_result h (Ok a) = Ok (device_of m P (done m P h a))
   device_result h (Err f) = Err f
 

@@ -12,6 +12,7 @@ use Rattle.sensor.specs.declared.device.Device.{Device}
 use Rattle.sensor.specs.declared.sensor.Sensor.{Sensor}
 use Rattle.rules.specs.Lessons.{Goes, Lesson, Stage, Values, idle, busy_single, busy_two, wait_two, dyn_start, wait_dyn, highest, lowest, teachpoint}
 use Rattle.rules.specs.Rules.{Fixed, Held}
+use Rattle.days.specs.Days.{Standing, blank, in_day}
 
 module _ {V : Type 0} (m : Meaning V) where
   -- the lowest and the highest of v and vs
@@ -26,6 +27,7 @@ module _ {V : Type 0} (m : Meaning V) where
   summary [] = None
   summary (v ∷ vs) = Some (band v vs)
 
+  -- a teachpoint that was taken, by its value
   abbrev pub point_of : Option (Values V) → Option V
   point_of None = None
   point_of (Some k) = Some (teachpoint m k)
@@ -33,6 +35,7 @@ module _ {V : Type 0} (m : Meaning V) where
   abbrev pub points_of : Teachpoints (Option (Values V)) → Teachpoints (Option V)
   points_of p = record { tp1 = point_of p.tp1; tp2 = point_of p.tp2 }
 
+  -- where a teach stands
   abbrev pub machine_of : Stage V → State V
   machine_of idle = Idle
   machine_of (busy_single sp vs) = BusySingle sp (summary vs)
@@ -61,3 +64,8 @@ module _ {V : Type 0} (m : Meaning V) where
 
   abbrev pub sensor_of : Fixed V → Held V → Sensor V
   sensor_of P h = record { device = Some (device_of P h) }
+
+  -- the sensor that stands there
+  abbrev pub sensor_at : Standing V → Sensor V
+  sensor_at blank = record { device = None }
+  sensor_at (in_day P h) = sensor_of P h

@@ -1,3 +1,6 @@
+pub mod Days
 pub mod Devices
-pub mod Told
+pub mod Made
+pub mod Runs
 pub mod Tickets
+pub mod Told

@@ -2,9 +2,11 @@
 use channels::reading::Reading;
 use channels::row::Row;
 use faults::Fault;
+use sensor::setup::Setup;
 
 #[derive(Drop)]
 pub enum Call {
+    SetUp(Setup<Vec<u8>>),
     // A reading, and the length of the buffer.
     Sample(Reading<Vec<u8>>, u16),
     // A frame, and the length of the response buffer.

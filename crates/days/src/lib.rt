@@ -2,5 +2,7 @@
 #![tactic(auto)]
 
 pub mod call;
+pub mod day;
+mod keypad;
 mod made;
 mod tickets;

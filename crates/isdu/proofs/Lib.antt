@@ -5,3 +5,4 @@ mod Buffers
 mod Agreement
 mod Least
 pub mod Callers
+pub mod Unanswered

@@ -30,7 +30,9 @@ Carries Read second octets = (length octets ≡ 0) × (second ≡ false)
 -- the octets of a frame that asks for a request
 pub record Laid (frame : List ℕ) (asked : Asked) : Type 0 where
   pub addressing : Addressing
+  -- whether there is a second length octet
   pub second : Bool
+  -- the check octet
   pub check : ℕ
   pub whole : frame ≡ heading second (service_digit asked.direction addressing) (length frame) ++ (address_octets addressing asked.index asked.subindex ++ (asked.octets ++ (check ∷ [])))
   pub lengths : Lengths second (length frame)

@@ -90,7 +90,7 @@ module _ {V : Type 0} (m : Meaning V) (P : Fixed V) where
       (past_test (not keypad) (fault NotOpen) x d p.1).1
 
   pub order_fact : (keypad : Bool) (t : Table V) (c : Call) (d : Order V) → asked m P keypad t c ≡ Ok d → OrderFact t d
-  order_fact keypad t (sample r room) d e = sample_fact t (reading_of m P r) room d e
+  order_fact keypad t (sample r room) d e = sample_fact t (reading_of m r) room d e
   order_fact keypad t (request frame room) d e =
       let within : Asked → Result (Order V) Fault = λ a. then (access_checked m t keypad a) (λ o. object_asked m P t a.direction a o) in
       let p = past_test (ltb room 16) (fault ResponseBuffer) (then (decoded frame) within) d e in

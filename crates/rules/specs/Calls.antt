@@ -15,6 +15,7 @@ pub data Call : Type 0 where
   open_keypad : Call
   -- the serial number that the ticket bears, channel, setpoint, octets
   write_keypad : ℕ → ℕ → ℕ → List ℕ → Call
+  -- the serial number that the ticket bears
   close_keypad : ℕ → Call
   restart : Call
 
@@ -26,8 +27,11 @@ pub data Part (V : Type 0) : Type 0 where
 -- what a call asks for, once it has passed every check that does not concern the teach
 pub data Order (V : Type 0) : Type 0 where
   to_sample : Reading V → Order V
+  -- an object and a subindex
   to_read : Object → ℕ → Order V
+  -- a channel
   to_select : ℕ → Order V
+  -- a command, and the place that its denial would tell
   to_command : Place → Command → Order V
   -- settings of a channel, from the bus or the keypad
   to_write : ℕ → List (Part V) → Order V

@@ -33,7 +33,7 @@ module _ {V : Type 0} where
   value_by closes = None
   value_by restarts = None
 
-  -- the value of an accepted sample
+  -- the value of an accepted sample, where it lies in the range
   abbrev pub value_of : Result (Act V) Fault → Option V
   value_of (Ok a) = value_by a
   value_of (Err f) = None

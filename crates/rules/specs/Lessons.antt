@@ -42,6 +42,7 @@ is_idle (wait_two sp p) = false
 is_idle (dyn_start sp) = false
 is_idle (wait_dyn sp k) = false
 
+-- a latest value before earlier ones
 abbrev pub values : {V : Type 0} → V → List V → Values V
 values v vs = record { latest = v; earlier = vs }
 
@@ -74,6 +75,7 @@ module _ {V : Type 0} where
   abbrev pub ends : Verdict V → Goes V
   ends v = record { stage = idle; change = Keep; verdict = v }
 
+  -- a step that the state has only where a test passes
   abbrev pub only : Bool → Goes V → Option (Goes V)
   only b g = cond b (Some g) None
 

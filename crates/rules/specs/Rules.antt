@@ -64,8 +64,8 @@ module _ {V : Type 0} where
   abbrev pub numbered_part : ℕ → V → Part V
   numbered_part n v = cond (n == 1) (sets_sp1 v) (sets_sp2 v)
 
-module _ {V : Type 0} (m : Meaning V) (P : Fixed V) where
-  abbrev valued : Option V → Option (Reading V)
+module _ {V : Type 0} (m : Meaning V) where
+  abbrev pub valued : Option V → Option (Reading V)
   valued None = None
   valued (Some v) = Some (Value v)
 
@@ -76,6 +76,7 @@ module _ {V : Type 0} (m : Meaning V) (P : Fixed V) where
   reading_of Above = Some Above
   reading_of NoData = Some NoData
 
+module _ {V : Type 0} (m : Meaning V) (P : Fixed V) where
   -- 17: the octets are no value. 6: the buffer is too short. A value out of the range counts as Below or Above
   abbrev pub sample_asked : Option (Reading V) → ℕ → Result (Order V) Fault
   sample_asked None room = Err (fault NoValue)
@@ -150,7 +151,7 @@ module _ {V : Type 0} (m : Meaning V) (P : Fixed V) where
 
   -- the checks that do not concern the teach
   abbrev pub asked : Bool → Table V → Call → Result (Order V) Fault
-  asked keypad t (sample r room) = sample_asked (reading_of r) room
+  asked keypad t (sample r room) = sample_asked (reading_of m r) room
   asked keypad t (request frame room) = request_asked keypad t frame room
   -- 22: open already
   asked keypad t open_keypad = cond keypad (Err (fault AlreadyOpen)) (Ok to_open)
@@ -277,6 +278,7 @@ module _ {V : Type 0} (m : Meaning V) (P : Fixed V) where
   response_of direction None = []
   response_of direction (Some code) = refusal direction code
 
+  -- a frame that is no request has none
   abbrev pub negative : Result Asked Fault → Fault → List ℕ
   negative (Ok a) f = response_of a.direction (entry f.denial).code
   negative (Err e) f = []
@@ -285,6 +287,7 @@ module _ {V : Type 0} (m : Meaning V) (P : Fixed V) where
   abbrev pub process_data : Held V → Reading V → List ℕ
   process_data h r = block m r P.scale (signals_octet (judged_table m r h.channels))
 
+  -- the response to a request that is done: to a read what it shows, to a write 52 52
   abbrev pub request_granted : Act V → List ℕ
   request_granted (samples r g) = write_reply
   request_granted (shows octets) = read_reply octets
@@ -295,6 +298,7 @@ module _ {V : Type 0} (m : Meaning V) (P : Fixed V) where
   request_granted closes = write_reply
   request_granted restarts = write_reply
 
+  -- what an accepted sample writes
   abbrev pub sample_granted : Held V → Act V → List ℕ
   sample_granted h (samples r g) = process_data h r
   sample_granted h (shows octets) = []
@@ -340,6 +344,7 @@ module _ {V : Type 0} (m : Meaning V) (P : Fixed V) where
   entries h [] = []
   entries h (c ∷ cs) = entry_of h c ∷ entries (next m P h c) cs
 
--- after set-up: SP1 low, SP2 high, logic 0, mode 1, hysteresis 0, inactive; channel 1 selected, no teach, no keypad operation
+-- what the sensor holds when a day begins, after set-up: SP1 low, SP2 high, logic 0, mode 1, hysteresis 0, inactive; channel 1
+-- selected, no teach, no keypad operation
 abbrev pub first_day : {V : Type 0} → Fixed V → ℕ → Held V
 first_day P count = record { keypad = false; selected = 1; lesson = no_lesson; channels = fresh_table count P.low P.high }

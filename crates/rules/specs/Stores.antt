@@ -35,7 +35,8 @@ module _ {V : Type 0} where
   capturing (dyn_start sp) = Some whole
   capturing (wait_dyn sp k) = Some whole
 
-  -- a Start discards what was captured, and a teachpoint that is taken again its earlier values
+  -- a Start discards what was captured, and a teachpoint that is taken again its earlier values: told by the stage that the
+  -- command leads to
   abbrev pub taken_anew : Purpose → Stage V → Bool
   taken_anew x idle = false
   taken_anew x (busy_single sp vs) = false
