@@ -6,9 +6,16 @@ Python integers and IEEE single floats (by struct), a sensor is a dictionary of
 plain Python values, and each call is a chain of checks in the order of the rules.
 
     python3 tools/bench_expected.py < SCRIPT          the expected output
+    python3 tools/bench_expected.py --changes < SCRIPT
+                                                      that of `bench --changes`
     python3 tools/bench_expected.py --gather          writes crates/bench/stdin and
                                                       crates/bench/stdout from sessions/*.session
     python3 tools/bench_expected.py --check           fails unless both are as gathered
+
+With `--changes` the line of each call is followed by a line for each channel that differs from what it was before, with the
+fields that changed as `show` prints them; all of them where the channel is new, `gone` where it is no longer there. And a
+day, which runs from an accepted set-up to the next one, the next `sensor` or the end, is followed by its timeline: for each
+channel a character for each accepted sample, `#` where its signal was 1 after it, `_` where it was 0.
 """
 import glob
 import os
@@ -413,55 +420,109 @@ def octets(t):
     return b"" if t == "-" else bytes.fromhex(t)
 
 
-def run(script):
-    out, accepted, denied, sensor = [], 0, 0, None
+def call(sensor, word, rest):
+    """The text of an accepted call's reply."""
+    room = 16
+    if len(rest) >= 2 and rest[-2] == "into":
+        room, rest = int(rest[-1]), rest[:-2]
+    if word == "setup":
+        fields = dict(w.split("=") for w in rest)
+        sensor.setup({k: octets(v) if k in ("low", "high") else int(v) for k, v in fields.items()})
+    elif word == "sample":
+        t = rest[0]
+        return spaced(sensor.sample(t if t in ("below", "above", "nodata") else octets(t), room))
+    elif word == "request":
+        return spaced(sensor.request(octets("".join(rest)), room))
+    elif word == "open":
+        return "ticket %d" % sensor.open()
+    elif word == "write":
+        sensor.write(int(rest[0]), int(rest[1]), int(rest[2]), octets(rest[3]))
+    elif word == "close":
+        sensor.close(int(rest[0]))
+    elif word == "restart":
+        sensor.restart()
+    else:
+        raise SystemExit("unknown word " + word)
+    return "accepted"
+
+
+def refusal(d):
+    text = "denied %d %s" % (d.number, LAYER[d.number])
+    if getattr(d, "octets", None):
+        text += " %d.%d: %s" % (d.index, d.subindex, spaced(d.octets))
+    return text
+
+
+def shown(sensor):
+    """The fields of each channel; a blank sensor has no channels."""
+    return [[
+        "sp1=" + sensor.k.octets(r["sp"][0]).hex().upper(),
+        "sp2=" + sensor.k.octets(r["sp"][1]).hex().upper(),
+        "logic=%d" % r["logic"],
+        "mode=%d" % r["mode"],
+        "hysteresis=%d" % r["h"],
+        "active=%d" % r["on"],
+        "signal=%d" % sensor.signal(r),
+    ] for r in (sensor.rows if sensor.set else [])]
+
+
+def changed(before, after):
+    """A line for each channel that differs."""
+    lines = []
+    for i in range(max(len(before), len(after))):
+        old, new = before[i:i + 1], after[i:i + 1]
+        if not new:
+            lines.append("  channel %d: gone" % (i + 1))
+        elif old != new:
+            fields = [f for f in new[0] if not old or f not in old[0]]
+            lines.append("  channel %d: %s" % (i + 1, " ".join(fields)))
+    return lines
+
+
+def timeline(day):
+    """The lines of a day, which is a list of the signals after each accepted sample."""
+    if not day:
+        return []
+    lines = ["timeline of %d sample%s" % (len(day), "" if len(day) == 1 else "s")]
+    for i in range(len(day[0])):
+        lines.append("  channel %d %s" % (i + 1, "".join("#" if signals[i] else "_" for signals in day)))
+    return lines
+
+
+def run(script, changes=False):
+    out, accepted, denied, sensor, day = [], 0, 0, None, []
     for line in script.splitlines():
         words = line.split("#")[0].split()
         if not words:
             continue
         word, rest = words[0], words[1:]
         if word == "sensor":
-            sensor = Sensor(KINDS[rest[0]])
+            if changes:
+                out += timeline(day)
+            sensor, day = Sensor(KINDS[rest[0]]), []
             continue
+        before = shown(sensor)
         if word == "show":
-            for i, r in enumerate(sensor.rows if sensor.set else []):
-                out.append("channel %d sp1=%s sp2=%s logic=%d mode=%d hysteresis=%d active=%d signal=%d" % (
-                    i + 1, sensor.k.octets(r["sp"][0]).hex().upper(), sensor.k.octets(r["sp"][1]).hex().upper(),
-                    r["logic"], r["mode"], r["h"], r["on"], sensor.signal(r)))
+            out += ["channel %d %s" % (i + 1, " ".join(fields)) for i, fields in enumerate(before)]
             continue
-        room = 16
-        if len(rest) >= 2 and rest[-2] == "into":
-            room, rest = int(rest[-1]), rest[:-2]
+        ended = []
         try:
-            if word == "setup":
-                fields = dict(w.split("=") for w in rest)
-                sensor.setup({k: octets(v) if k in ("low", "high") else int(v) for k, v in fields.items()})
-                text = "accepted"
-            elif word == "sample":
-                t = rest[0]
-                text = spaced(sensor.sample(t if t in ("below", "above", "nodata") else octets(t), room))
-            elif word == "request":
-                text = spaced(sensor.request(octets("".join(rest)), room))
-            elif word == "open":
-                text = "ticket %d" % sensor.open()
-            elif word == "write":
-                sensor.write(int(rest[0]), int(rest[1]), int(rest[2]), octets(rest[3]))
-                text = "accepted"
-            elif word == "close":
-                sensor.close(int(rest[0]))
-                text = "accepted"
-            elif word == "restart":
-                sensor.restart()
-                text = "accepted"
-            else:
-                raise SystemExit("unknown word " + word)
+            text = call(sensor, word, rest)
             accepted += 1
+            if word == "setup":
+                ended, day = day, []
+            elif word == "sample":
+                day.append([sensor.signal(r) for r in sensor.rows])
         except Denied as d:
-            text = "denied %d %s" % (d.number, LAYER[d.number])
-            if getattr(d, "octets", None):
-                text += " %d.%d: %s" % (d.index, d.subindex, spaced(d.octets))
+            text = refusal(d)
             denied += 1
+        if changes:
+            out += timeline(ended)
         out.append("%s: %s" % (word, text))
+        if changes:
+            out += changed(before, shown(sensor))
+    if changes:
+        out += timeline(day)
     out.append("%d calls: %d accepted, %d denied" % (accepted + denied, accepted, denied))
     return "".join(t + "\n" for t in out)
 
@@ -481,7 +542,7 @@ def main():
             if open(path).read() != text:
                 raise SystemExit(path + " is not what sessions/ gives: run tools/bench_expected.py --gather")
     else:
-        sys.stdout.write(run(sys.stdin.read()))
+        sys.stdout.write(run(sys.stdin.read(), changes=sys.argv[1:] == ["--changes"]))
 
 
 if __name__ == "__main__":

@@ -1,12 +1,15 @@
-// Runs a session script on a real sensor and prints what the sensor answered.
+// Runs a session script on real sensors and prints what they answered.
 #![tactic(auto)]
 
+mod help;
 mod printed;
 mod run;
 mod script;
 mod session;
+mod timeline;
 
 use anyhow::anyhow;
+use help::HELP;
 use kinds::float32_t::Float32T;
 use kinds::integer_t16::IntegerT16;
 use kinds::integer_t32::IntegerT32;
@@ -14,8 +17,27 @@ use run::{Bench, Tally};
 use script::KindName;
 use sensor::sensor::Sensor;
 use session::{Section, Session};
-use std::io;
 use std::io::Read;
+use std::{env, io};
+
+// What the program is asked for.
+#[derive(Clone, Copy)]
+enum Task {
+    Help,
+    Run { changes: bool },
+}
+
+fn read_task(rt: &HostRuntime) -> anyhow::Result<Task> {
+    let mut changes = false;
+    for argument in env::args(rt)?.skip(1) {
+        match argument.as_str() {
+            "--help" => return Ok(Task::Help),
+            "--changes" => changes = true,
+            other => return Err(anyhow!("unknown argument {other}: expected --changes or --help")),
+        }
+    }
+    Ok(Task::Run { changes })
+}
 
 // A blank sensor is made where its kind, and with it its size, is known: in generic code it was tried, and that a sensor of
 // any kind fits into memory stayed open.
@@ -27,14 +49,15 @@ fn run_section(bench: &mut Bench, section: &Section) -> io::Result<()> {
     }
 }
 
-fn main(rt: HostRuntime) -> anyhow::Result<()> {
+fn run_session(rt: &HostRuntime, changes: bool) -> anyhow::Result<()> {
     let heap = rt.alloc();
     let mut text = String::new(heap);
     rt.stdin().read_to_string(&mut text)?;
     let mut session = Session::new(heap);
     let read = session.read(heap, text.as_str());
     let mut bench = Bench {
-        rt: &rt,
+        rt,
+        changes,
         tally: Tally::default(),
     };
     for section in &session.sections {
@@ -47,4 +70,11 @@ fn main(rt: HostRuntime) -> anyhow::Result<()> {
     }
     println!(rt; "{}", bench.tally)?;
     Ok(())
+}
+
+fn main(rt: HostRuntime) -> anyhow::Result<()> {
+    match read_task(&rt)? {
+        Task::Help => Ok(print!(rt; "{HELP}")?),
+        Task::Run { changes } => run_session(&rt, changes),
+    }
 }

@@ -1,25 +1,20 @@
-// How octets and denials are printed.
+// How octets, answers and channels are printed.
+use days::call::{Call, Channel, Reply};
 use faults::Fault;
+use kinds::kind::Kind;
 use std::fmt;
 
 // Octets as pairs of hexadecimal digits, with a text between them.
 #[derive(Clone, Copy)]
-pub struct Octets<'a> {
+struct Octets<'a> {
     octets: &'a [u8],
     between: &'static str,
 }
 
-pub fn spaced<'a>(octets: &'a [u8]) -> Octets<'a> {
+fn spaced<'a>(octets: &'a [u8]) -> Octets<'a> {
     Octets {
         octets,
         between: " ",
-    }
-}
-
-pub fn joined<'a>(octets: &'a [u8]) -> Octets<'a> {
-    Octets {
-        octets,
-        between: "",
     }
 }
 
@@ -36,14 +31,169 @@ impl fmt::Display for Octets<'_> {
     }
 }
 
-// A denial by its number and its layer.
-#[derive(Clone, Copy)]
-pub struct Denied(pub Fault);
+// The word that a script has for a call.
+fn word(call: &Call) -> &'static str {
+    match call {
+        Call::SetUp(_) => "setup",
+        Call::Sample(..) => "sample",
+        Call::Request(..) => "request",
+        Call::OpenKeypad => "open",
+        Call::WriteKeypad(..) => "write",
+        Call::CloseKeypad(_) => "close",
+        Call::Restart => "restart",
+    }
+}
 
-impl fmt::Display for Denied {
+// A denial by its number and its layer, with the place and the response where one was written.
+#[derive(Clone, Copy)]
+struct Denied<'a> {
+    fault: Fault,
+    response: &'a [u8],
+}
+
+impl fmt::Display for Denied<'_> {
     fn fmt<W: fmt::Write>(&self, f: &mut fmt::Formatter<W>) -> fmt::Result {
-        let number = self.0.denial.number();
-        let layer = self.0.denial.layer();
-        write!(f, "denied {number} {layer}")
+        let number = self.fault.denial.number();
+        let layer = self.fault.denial.layer();
+        write!(f, "denied {number} {layer}")?;
+        if self.response.is_empty() {
+            return Ok(());
+        }
+        write!(
+            f,
+            " {}.{}: {}",
+            self.fault.index,
+            self.fault.subindex,
+            spaced(self.response)
+        )
+    }
+}
+
+// A call with what it answered.
+#[derive(Clone, Copy)]
+pub struct Answer<'a> {
+    pub call: &'a Call,
+    pub reply: &'a Reply,
+}
+
+impl fmt::Display for Answer<'_> {
+    fn fmt<W: fmt::Write>(&self, f: &mut fmt::Formatter<W>) -> fmt::Result {
+        write!(f, "{}: ", word(self.call))?;
+        match self.reply {
+            Reply::Accepted(octets) if octets.is_empty() => write!(f, "accepted"),
+            Reply::Accepted(octets) => write!(f, "{}", spaced(octets.as_slice())),
+            Reply::Ticket(serial) => write!(f, "ticket {serial}"),
+            Reply::Denied(fault, response) => {
+                let denied = Denied {
+                    fault: *fault,
+                    response: response.as_slice(),
+                };
+                write!(f, "{denied}")
+            }
+        }
+    }
+}
+
+// What is shown of a channel.
+#[derive(Clone, Copy)]
+enum Field {
+    Sp1,
+    Sp2,
+    Logic,
+    Mode,
+    Hysteresis,
+    Active,
+    Signal,
+}
+
+const FIELDS: [Field; 7] = [
+    Field::Sp1,
+    Field::Sp2,
+    Field::Logic,
+    Field::Mode,
+    Field::Hysteresis,
+    Field::Active,
+    Field::Signal,
+];
+
+impl Field {
+    fn differs<K: Kind>(self, a: &Channel<K>, b: &Channel<K>) -> bool {
+        match self {
+            Field::Sp1 => a.row.sp1 != b.row.sp1,
+            Field::Sp2 => a.row.sp2 != b.row.sp2,
+            Field::Logic => a.row.logic != b.row.logic,
+            Field::Mode => a.row.mode != b.row.mode,
+            Field::Hysteresis => a.row.hysteresis != b.row.hysteresis,
+            Field::Active => a.row.active != b.row.active,
+            Field::Signal => a.signal != b.signal,
+        }
+    }
+
+    fn print<K: Kind, W: fmt::Write>(
+        self,
+        channel: &Channel<K>,
+        f: &mut fmt::Formatter<W>,
+    ) -> fmt::Result {
+        let row = &channel.row;
+        match self {
+            Field::Sp1 => write!(f, "sp1={}", Value(row.sp1)),
+            Field::Sp2 => write!(f, "sp2={}", Value(row.sp2)),
+            Field::Logic => write!(f, "logic={}", row.logic),
+            Field::Mode => write!(f, "mode={}", row.mode),
+            Field::Hysteresis => write!(f, "hysteresis={}", row.hysteresis),
+            Field::Active => write!(f, "active={}", u8::from(row.active)),
+            Field::Signal => write!(f, "signal={}", u8::from(channel.signal)),
+        }
+    }
+}
+
+// A value by its octets, with nothing between them.
+#[derive(Clone, Copy)]
+struct Value<K>(K);
+
+impl<K: Kind> fmt::Display for Value<K> {
+    fn fmt<W: fmt::Write>(&self, f: &mut fmt::Formatter<W>) -> fmt::Result {
+        // A value has 2 or 4 octets.
+        let mut octets = [0u8; 4];
+        let n = self.0.write(&mut octets).unwrap_or(0);
+        let octets = Octets {
+            octets: octets.get(..n).unwrap_or(&[]),
+            between: "",
+        };
+        write!(f, "{octets}")
+    }
+}
+
+// A channel, or of one that was there before what changed.
+#[derive(Clone, Copy)]
+pub struct Fields<'a, K> {
+    pub before: Option<&'a Channel<K>>,
+    pub now: &'a Channel<K>,
+}
+
+impl<K: Kind> Fields<'_, K> {
+    fn has(&self, field: Field) -> bool {
+        match self.before {
+            None => true,
+            Some(before) => field.differs(before, self.now),
+        }
+    }
+
+    pub fn is_empty(&self) -> bool {
+        !FIELDS.iter().any(|field| self.has(*field))
+    }
+}
+
+impl<K: Kind> fmt::Display for Fields<'_, K> {
+    fn fmt<W: fmt::Write>(&self, f: &mut fmt::Formatter<W>) -> fmt::Result {
+        let mut between = "";
+        for field in FIELDS {
+            if self.has(field) {
+                write!(f, "{between}")?;
+                field.print(self.now, f)?;
+                between = " ";
+            }
+        }
+        Ok(())
     }
 }

@@ -4,6 +4,7 @@ ghost use Rattle.std.specs.Prelude.{◌≡◌};
 
 use channels::range::Range;
 use channels::reading::Reading;
+use days::call::Call;
 use sensor::setup::Setup;
 use std::alloc::{AllocError, Global};
 use std::str::FromStr;
@@ -33,20 +34,11 @@ impl FromStr for KindName {
 
 // What a line asks for.
 #[derive(Drop)]
-pub enum Step {
-    Setup(Setup<Vec<u8>>),
-    // A reading and the length of the buffer.
-    Sample(Reading<Vec<u8>>, u16),
-    // A frame and the length of the response buffer.
-    Request(Vec<u8>, u16),
-    Show,
-}
-
-#[derive(Drop)]
 pub enum Line {
     Blank,
     Sensor(KindName),
-    Step(Step),
+    Call(Call),
+    Show,
 }
 
 // Why a line cannot be read: what was expected there, or want of memory.
@@ -70,6 +62,14 @@ const SETUP_FORM: &str = "setup serial= channels= low= high= scale= capture= spr
 const SAMPLE_FORM: &str = "sample OCTETS, below, above or nodata, then nothing or: into LENGTH";
 
 const REQUEST_FORM: &str = "request OCTETS, or -, then nothing or: into LENGTH";
+
+const WRITE_FORM: &str = "write SERIAL CHANNEL SETPOINT OCTETS";
+
+const CLOSE_FORM: &str = "close SERIAL";
+
+const SERIAL_FORM: &str = "a serial number from 0 to 4294967295";
+
+const NUMBER_FORM: &str = "a channel and a setpoint from 0 to 255";
 
 const LENGTH_FORM: &str = "a buffer length from 0 to 65535";
 
@@ -192,7 +192,7 @@ fn buffer(into: Option<&str>, length: Option<&str>) -> Result<u16, Problem> {
     }
 }
 
-fn sample(heap: Global, rest: &str) -> Result<Step, Problem> {
+fn sample(heap: Global, rest: &str) -> Result<Call, Problem> {
     let mut words = rest.split_whitespace();
     let first = words.next().ok_or(Problem::Expected(SAMPLE_FORM))?;
     let reading = reading(heap, first)?;
@@ -201,11 +201,11 @@ fn sample(heap: Global, rest: &str) -> Result<Step, Problem> {
     if words.next().is_some() {
         return Err(Problem::Expected(SAMPLE_FORM));
     }
-    Ok(Step::Sample(reading, buffer(into, length)?))
+    Ok(Call::Sample(reading, buffer(into, length)?))
 }
 
 // Octets with free spaces between them, and the response buffer.
-fn request(heap: Global, rest: &str) -> Result<Step, Problem> {
+fn request(heap: Global, rest: &str) -> Result<Call, Problem> {
     let (octets_text, length) = match rest.split_once("into") {
         Some((before, after)) => (before, number(after.trim(), LENGTH_FORM)?),
         None => (rest, USUAL_BUFFER),
@@ -217,7 +217,7 @@ fn request(heap: Global, rest: &str) -> Result<Step, Problem> {
     for word in octets_text.split_whitespace() {
         frame.extend_from_slice(octets(heap, word)?.as_slice())?;
     }
-    Ok(Step::Request(frame, length))
+    Ok(Call::Request(frame, length))
 }
 
 // The line up to a comment.
@@ -225,15 +225,56 @@ fn uncommented(text: &str) -> &str {
     text.split_once('#').map_or(text, |(before, _)| before)
 }
 
+// A ticket's serial number, a channel, a setpoint and octets.
+fn write(heap: Global, rest: &str) -> Result<Call, Problem> {
+    let mut words = rest.split_whitespace();
+    let (Some(serial), Some(channel), Some(setpoint), Some(value), None) = (
+        words.next(),
+        words.next(),
+        words.next(),
+        words.next(),
+        words.next(),
+    ) else {
+        return Err(Problem::Expected(WRITE_FORM));
+    };
+    Ok(Call::WriteKeypad(
+        number(serial, SERIAL_FORM)?,
+        number(channel, NUMBER_FORM)?,
+        number(setpoint, NUMBER_FORM)?,
+        octets(heap, value)?,
+    ))
+}
+
+fn close(rest: &str) -> Result<Call, Problem> {
+    if rest.is_empty() {
+        return Err(Problem::Expected(CLOSE_FORM));
+    }
+    Ok(Call::CloseKeypad(number(rest, SERIAL_FORM)?))
+}
+
+// A word that stands alone.
+fn alone(line: Line, rest: &str, expected: &'static str) -> Result<Line, Problem> {
+    if rest.is_empty() {
+        Ok(line)
+    } else {
+        Err(Problem::Expected(expected))
+    }
+}
+
 fn words(heap: Global, word: &str, rest: &str) -> Result<Line, Problem> {
     match word {
         "sensor" => Ok(Line::Sensor(rest.parse::<KindName>()?)),
-        "setup" => Ok(Line::Step(Step::Setup(setup(heap, rest)?))),
-        "sample" => Ok(Line::Step(sample(heap, rest)?)),
-        "request" => Ok(Line::Step(request(heap, rest)?)),
-        "show" if rest.is_empty() => Ok(Line::Step(Step::Show)),
-        "show" => Err(Problem::Expected("show alone")),
-        _ => Err(Problem::Expected("sensor, setup, sample, request or show")),
+        "setup" => Ok(Line::Call(Call::SetUp(setup(heap, rest)?))),
+        "sample" => Ok(Line::Call(sample(heap, rest)?)),
+        "request" => Ok(Line::Call(request(heap, rest)?)),
+        "open" => alone(Line::Call(Call::OpenKeypad), rest, "open alone"),
+        "write" => Ok(Line::Call(write(heap, rest)?)),
+        "close" => Ok(Line::Call(close(rest)?)),
+        "restart" => alone(Line::Call(Call::Restart), rest, "restart alone"),
+        "show" => alone(Line::Show, rest, "show alone"),
+        _ => Err(Problem::Expected(
+            "sensor, setup, sample, request, open, write, close, restart or show",
+        )),
     }
 }
 

@@ -1,11 +1,20 @@
-// A whole script: a section for each sensor, with the steps that it is taken through.
-use super::script::{KindName, Line, Problem, Step, read_line};
+// A whole script: a section for each sensor, with the calls that it is taken through.
+use super::script::{KindName, Line, Problem, read_line};
+use days::call::Call;
 use std::alloc::Global;
 use thiserror::Error;
+
+// What a line of a section does: it makes the next call, or shows the channels.
+#[derive(Clone, Copy)]
+pub enum Step {
+    Call,
+    Show,
+}
 
 #[derive(Drop)]
 pub struct Section {
     pub kind: KindName,
+    pub calls: Vec<Call>,
     pub steps: Vec<Step>,
 }
 
@@ -32,25 +41,31 @@ impl Session {
     fn begin(&mut self, heap: Global, kind: KindName) -> Result<(), Problem> {
         self.sections.push(Section {
             kind,
+            calls: Vec::new(heap),
             steps: Vec::new(heap),
         })?;
         Ok(())
     }
 
-    fn add(&mut self, step: Step) -> Result<(), Problem> {
-        let section = self.sections.last_mut().ok_or(Problem::Expected(
+    // The section of the latest sensor.
+    fn latest(&mut self) -> Result<&mut Section, Problem> {
+        self.sections.last_mut().ok_or(Problem::Expected(
             "sensor int16, int32 or float32 as the first line",
-        ))?;
-        section.steps.push(step)?;
-        Ok(())
+        ))
     }
 
     fn take(&mut self, heap: Global, text: &str) -> Result<(), Problem> {
         match read_line(heap, text)? {
-            Line::Blank => Ok(()),
-            Line::Sensor(kind) => self.begin(heap, kind),
-            Line::Step(step) => self.add(step),
+            Line::Blank => {}
+            Line::Sensor(kind) => self.begin(heap, kind)?,
+            Line::Call(call) => {
+                let section = self.latest()?;
+                section.calls.push(call)?;
+                section.steps.push(Step::Call)?;
+            }
+            Line::Show => self.latest()?.steps.push(Step::Show)?,
         }
+        Ok(())
     }
 
     // Reads a script up to its end, or to the first line that cannot be read; what stands before that line stays.

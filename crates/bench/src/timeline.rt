@@ -1,0 +1,67 @@
+// The signals of each channel over the accepted samples of a day.
+use days::call::{Call, Channel, Entry, Reply};
+use kinds::kind::Kind;
+use std::alloc::{AllocError, Global};
+use std::fmt;
+
+#[derive(Drop)]
+pub struct Timeline<'a, K> {
+    // The channels after each sample.
+    samples: Vec<&'a [Channel<K>]>,
+}
+
+impl<'a, K: Kind> Timeline<'a, K> {
+    pub fn new(heap: Global) -> Timeline<'a, K> {
+        Timeline {
+            samples: Vec::new(heap),
+        }
+    }
+
+    pub fn clear(&mut self) {
+        self.samples.clear();
+    }
+
+    // Takes an entry, if it is of an accepted sample.
+    pub fn take(&mut self, call: &Call, entry: &'a Entry<K>) -> Result<(), AllocError> {
+        if let (Call::Sample(..), Reply::Accepted(_)) = (call, &entry.reply) {
+            self.samples.push(entry.channels.as_slice())?;
+        }
+        Ok(())
+    }
+
+    pub fn samples(&self) -> usize {
+        self.samples.len()
+    }
+
+    // How many channels a day has does not change.
+    pub fn channels(&self) -> usize {
+        self.samples.last().map_or(0, |channels| channels.len())
+    }
+
+    // The signals of a channel, counted from 0.
+    pub fn signals(&self, channel: usize) -> Signals<'_, K> {
+        Signals {
+            samples: self.samples.as_slice(),
+            channel,
+        }
+    }
+}
+
+// The signals of one channel: `#` for 1 and `_` for 0.
+#[derive(Clone, Copy)]
+pub struct Signals<'a, K> {
+    samples: &'a [&'a [Channel<K>]],
+    channel: usize,
+}
+
+impl<K: Kind> fmt::Display for Signals<'_, K> {
+    fn fmt<W: fmt::Write>(&self, f: &mut fmt::Formatter<W>) -> fmt::Result {
+        for channels in self.samples {
+            let on = channels
+                .get(self.channel)
+                .is_some_and(|channel| channel.signal);
+            write!(f, "{}", if on { '#' } else { '_' })?;
+        }
+        Ok(())
+    }
+}
