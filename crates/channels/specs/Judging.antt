@@ -5,7 +5,7 @@ use Rattle.channels.specs.declared.reading.Reading.{Reading}
 use Rattle.channels.specs.declared.reading.Reading.TheVariants.{Value, Below, Above, NoData}
 use Rattle.channels.specs.declared.row.Row.{Row}
 
--- by the mode's code: 0 Deactivated, 1 Single Point, 2 Window, 3 Two Point. No way in takes a code over 3
+-- by the mode's code: 0 Deactivated, 1 Single Point, 2 Window, 3 Two Point. Set-up and writes give no other code
 abbrev by_mode : {A : Type 0} → ℕ → A → A → A → A → A
 by_mode mode deactivated single window two =
     cond (mode == 0) deactivated (cond (mode == 1) single (cond (mode == 2) window two))

@@ -18,7 +18,7 @@ abbrev pub from_to : ℕ → ℕ → ℕ → Bool
 from_to first last n = nat_le first n && nat_le n last
 
 -- the channel that an index belongs to: 60 and 61 are channel 1's, 62 and 63 channel 2's,
--- 4000 + 2(k-3) and the next channel k's, for k from 3 to 8; every other index belongs to none
+-- 0x4000 + 2(k-3) and the next channel k's, for k from 3 to 8; every other index belongs to none
 abbrev pub channel_of : ℕ → Option ℕ
 channel_of i = cond (from_to 60 63 i) (Some ((i - 58) / 2)) (cond (from_to 0x4000 0x400b i) (Some ((i - 0x3ffa) / 2)) None)
 

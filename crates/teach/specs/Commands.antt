@@ -12,7 +12,7 @@ use Rattle.teach.specs.declared.command.Step.TheVariants.{Apply, Single, Point, 
 abbrev row : ℕ → Setpoint → Teachpoint → Step → Command
 row c s t k = record { code = c; setpoint = s; teachpoint = t; step = k }
 
--- 40 Apply; 41, 42 Teach SP1, SP2; 43, 44 SP1 TP1, TP2; 45, 46 SP2 TP1, TP2; 47, 48 SP1 Start, Stop;
+-- the codes are hexadecimal: 40 Apply; 41, 42 Teach SP1, SP2; 43, 44 SP1 TP1, TP2; 45, 46 SP2 TP1, TP2; 47, 48 SP1 Start, Stop;
 -- 49, 4A SP2 Start, Stop; 4F Cancel. Where a command has no setpoint or no teachpoint, nothing looks at it
 abbrev pub commands : List Command
 commands =

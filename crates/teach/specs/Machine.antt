@@ -66,6 +66,7 @@ module _ {V : Type 0} where
   only b x = cond b x None
 
 module _ {V : Type 0} (m : Meaning V) (flags : Flags) (t : Terms) where
+  -- Apply evaluates both teachpoints; it has no row where one is missing
   abbrev pub applied : Setpoint → Option V → Option V → Option (Moved V)
   applied sp None b = None
   applied sp (Some a) None = None
