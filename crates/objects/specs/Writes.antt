@@ -57,7 +57,7 @@ module _ {V : Type 0} (m : Meaning V) (low high : V) where
 
 module _ {V : Type 0} where
   abbrev pub with_configuration : Row V → ℕ → ℕ → ℕ → Row V
-  with_configuration r l md h = record { sp1 = r.sp1; sp2 = r.sp2; hysteresis = h; logic = l; mode = md; active = r.active }
+  with_configuration r l md h = record r { hysteresis = h; logic = l; mode = md }
 
   -- logic, then mode, then hysteresis, in one write; the high octet of the hysteresis first
   abbrev pub whole_configuration : Place → Row V → ℕ → ℕ → ℕ → Result (Row V) Fault

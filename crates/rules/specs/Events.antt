@@ -2,13 +2,13 @@
 use Rattle.std.specs.Prelude.{ℕ, Bool, true, false, ◌&&◌, ◌||◌, Some, None, Ok, Err, Option, Result, ◌==◌}
 use Rattle.faults.specs.declared.Fault.{Fault}
 use Rattle.channels.specs.declared.reading.Reading.{Reading}
-use Rattle.channels.specs.declared.reading.Reading.TheVariants.{Value, Below, Above, NoData}
+use Rattle.channels.specs.declared.reading.Reading.TheVariants.{Value}
 use Rattle.channels.specs.declared.row.Row.{Row}
 use Rattle.channels.specs.Table.{row_at}
 use Rattle.teach.specs.declared.machine.Verdict.{Verdict}
-use Rattle.teach.specs.declared.machine.Verdict.TheVariants.{Open, Fails, Stores}
+use Rattle.teach.specs.declared.machine.Verdict.TheVariants.{Open, Stores}
 use Rattle.rules.specs.Lessons.{is_idle}
-use Rattle.rules.specs.Calls.{Act, samples, shows, selects, commands, writes, opens, closes, restarts}
+use Rattle.rules.specs.Calls.{Act, samples, commands, writes, restarts}
 use Rattle.rules.specs.Rules.{Held}
 
 module _ {V : Type 0} where
@@ -19,19 +19,11 @@ module _ {V : Type 0} where
 
   abbrev value_in : Reading V → Option V
   value_in (Value v) = Some v
-  value_in Below = None
-  value_in Above = None
-  value_in NoData = None
+  value_in r = None
 
   abbrev value_by : Act V → Option V
   value_by (samples r g) = value_in r
-  value_by (shows octets) = None
-  value_by (selects k) = None
-  value_by (commands g) = None
-  value_by (writes k ps) = None
-  value_by opens = None
-  value_by closes = None
-  value_by restarts = None
+  value_by a = None
 
   -- the value of an accepted sample, where it lies in the range
   abbrev pub value_of : Result (Act V) Fault → Option V
@@ -40,13 +32,8 @@ module _ {V : Type 0} where
 
   abbrev verdict_by : Act V → Verdict V
   verdict_by (samples r g) = g.verdict
-  verdict_by (shows octets) = Open
-  verdict_by (selects k) = Open
   verdict_by (commands g) = g.verdict
-  verdict_by (writes k ps) = Open
-  verdict_by opens = Open
-  verdict_by closes = Open
-  verdict_by restarts = Open
+  verdict_by a = Open
 
   -- what comes of the teach in the call
   abbrev pub verdict_of : Result (Act V) Fault → Verdict V
@@ -54,23 +41,16 @@ module _ {V : Type 0} where
   verdict_of (Err f) = Open
 
   abbrev pub is_stored : Verdict V → Bool
-  is_stored Open = false
-  is_stored Fails = false
   is_stored (Stores sp v) = true
+  is_stored v = false
 
   -- a teach stores a setpoint in the call
   abbrev pub stores : Result (Act V) Fault → Bool
   stores x = is_stored (verdict_of x)
 
   abbrev restarts_by : Act V → Bool
-  restarts_by (samples r g) = false
-  restarts_by (shows octets) = false
-  restarts_by (selects k) = false
-  restarts_by (commands g) = false
-  restarts_by (writes k ps) = false
-  restarts_by opens = false
-  restarts_by closes = false
   restarts_by restarts = true
+  restarts_by a = false
 
   -- the call is a restart
   abbrev pub is_restart : Result (Act V) Fault → Bool
@@ -78,14 +58,8 @@ module _ {V : Type 0} where
   is_restart (Err f) = false
 
   abbrev writes_by : ℕ → Act V → Bool
-  writes_by k (samples r g) = false
-  writes_by k (shows octets) = false
-  writes_by k (selects j) = false
-  writes_by k (commands g) = false
   writes_by k (writes j ps) = j == k
-  writes_by k opens = false
-  writes_by k closes = false
-  writes_by k restarts = false
+  writes_by k a = false
 
   -- the call is an accepted write of settings of channel k
   abbrev pub writes_to : ℕ → Result (Act V) Fault → Bool

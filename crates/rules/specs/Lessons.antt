@@ -36,11 +36,7 @@ pub data Stage (V : Type 0) : Type 0 where
 
 abbrev pub is_idle : {V : Type 0} → Stage V → Bool
 is_idle idle = true
-is_idle (busy_single sp vs) = false
-is_idle (busy_two sp tp vs p) = false
-is_idle (wait_two sp p) = false
-is_idle (dyn_start sp) = false
-is_idle (wait_dyn sp k) = false
+is_idle s = false
 
 -- a latest value before earlier ones
 abbrev pub values : {V : Type 0} → V → List V → Values V
@@ -86,45 +82,32 @@ module _ {V : Type 0} (m : Meaning V) (t : Terms) where
 
   -- both teachpoints: their middle, unless they are too close
   abbrev pub evaluated : Setpoint → Option (Values V) → Option (Values V) → Option (Goes V)
-  evaluated sp None q = None
-  evaluated sp (Some a) None = None
   evaluated sp (Some a) (Some b) = Some (ends (evaluate_two m t sp (teachpoint m a) (teachpoint m b)))
+  evaluated sp a b = None
 
   -- a value that is fed: the Busy states, Dyn Start and Wait Dyn capture it
   abbrev pub fed : Stage V → V → Goes V
-  fed idle v = goes idle Keep
   fed (busy_single sp vs) v =
       cond (full (v ∷ vs)) (ends (evaluate_single m t sp (lowest m v vs) (highest m v vs))) (goes (busy_single sp (v ∷ vs)) Keep)
   fed (busy_two sp tp vs p) v =
       cond (full (v ∷ vs)) (goes (wait_two sp (with_teachpoint p tp (Some (values v vs)))) (Set sp tp)) (goes (busy_two sp tp (v ∷ vs) p) Keep)
-  fed (wait_two sp p) v = goes (wait_two sp p) Keep
   fed (dyn_start sp) v = goes (wait_dyn sp (values v [])) Keep
   fed (wait_dyn sp k) v = goes (wait_dyn sp (values v (k.latest ∷ k.earlier))) Keep
+  fed s v = goes s Keep
 
   -- the row of a command in each state: none where the state has no such row
   abbrev pub row : Flags → Stage V → Step → Command → Option (Goes V)
   row f idle Single c = Some (goes (busy_single c.setpoint []) (Clear c.setpoint))
   row f idle Point c = Some (goes (busy_two c.setpoint c.teachpoint [] no_points) (Clear c.setpoint))
   row f idle Start c = Some (goes (dyn_start c.setpoint) (Clear c.setpoint))
-  row f idle Apply c = None
-  row f idle Stop c = None
-  row f idle Cancel c = None
-  row f (busy_single sp vs) x c = None
-  row f (busy_two sp tp vs p) x c = None
   row f (wait_two sp p) Point c = only (same_setpoint sp c.setpoint) (goes (busy_two sp c.teachpoint [] p) Keep)
   row f (wait_two sp p) Apply c = cond (both_set f sp) (evaluated sp p.tp1 p.tp2) None
   row f (wait_two sp p) Cancel c = Some (goes idle (Clear sp))
-  row f (wait_two sp p) Single c = None
-  row f (wait_two sp p) Start c = None
-  row f (wait_two sp p) Stop c = None
-  row f (dyn_start sp) x c = None
   row f (wait_dyn sp k) Start c = only (same_setpoint sp c.setpoint) (goes (dyn_start sp) Keep)
   row f (wait_dyn sp k) Stop c =
       only (same_setpoint sp c.setpoint) (ends (evaluate_dynamic m t sp (lowest m k.latest k.earlier) (highest m k.latest k.earlier)))
   row f (wait_dyn sp k) Cancel c = Some (goes idle (Clear sp))
-  row f (wait_dyn sp k) Apply c = None
-  row f (wait_dyn sp k) Single c = None
-  row f (wait_dyn sp k) Point c = None
+  row f s x c = None
 
 -- the teach of a sensor: where it stands, the flags, what was taught since the last select, and whether it failed
 pub record Lesson (V : Type 0) : Type 0 where
@@ -152,11 +135,9 @@ module _ {V : Type 0} where
   -- TeachState: 5 in the Busy states and Dyn Start, 4 in the Wait states, 7 after a failure, else 1 for SP1 plus 2 for SP2
   abbrev pub teach_state : Lesson V → Stage V → ℕ
   teach_state l idle = cond l.failed 7 (cond l.taught1 1 0 + 2 * cond l.taught2 1 0)
-  teach_state l (busy_single sp vs) = 5
-  teach_state l (busy_two sp tp vs p) = 5
   teach_state l (wait_two sp p) = 4
-  teach_state l (dyn_start sp) = 5
   teach_state l (wait_dyn sp k) = 4
+  teach_state l s = 5
 
   -- TeachState in bits 0 to 3, the flags in bits 4 to 7
   abbrev pub teach_result : Lesson V → ℕ

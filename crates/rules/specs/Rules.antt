@@ -22,7 +22,7 @@ use Rattle.teach.specs.declared.command.Setpoint.{Setpoint}
 use Rattle.teach.specs.declared.command.Setpoint.TheVariants.{Sp1, Sp2}
 use Rattle.teach.specs.declared.machine.Change.TheVariants.{Keep}
 use Rattle.teach.specs.declared.machine.Verdict.{Verdict}
-use Rattle.teach.specs.declared.machine.Verdict.TheVariants.{Open, Fails, Stores}
+use Rattle.teach.specs.declared.machine.Verdict.TheVariants.{Stores}
 use Rattle.teach.specs.declared.terms.Terms.{Terms}
 use Rattle.teach.specs.Teaching.{known}
 use Rattle.objects.specs.declared.object.Object.{Object}
@@ -164,11 +164,11 @@ module _ {V : Type 0} (m : Meaning V) (P : Fixed V) where
 module _ {V : Type 0} where
   -- a row with a setting changed: its other settings and its state stay
   abbrev pub with_part : Row V → Part V → Row V
-  with_part r (sets_sp1 v) = record { sp1 = v; sp2 = r.sp2; hysteresis = r.hysteresis; logic = r.logic; mode = r.mode; active = r.active }
-  with_part r (sets_sp2 v) = record { sp1 = r.sp1; sp2 = v; hysteresis = r.hysteresis; logic = r.logic; mode = r.mode; active = r.active }
-  with_part r (sets_logic n) = record { sp1 = r.sp1; sp2 = r.sp2; hysteresis = r.hysteresis; logic = n; mode = r.mode; active = r.active }
-  with_part r (sets_mode n) = record { sp1 = r.sp1; sp2 = r.sp2; hysteresis = r.hysteresis; logic = r.logic; mode = n; active = r.active }
-  with_part r (sets_hysteresis n) = record { sp1 = r.sp1; sp2 = r.sp2; hysteresis = n; logic = r.logic; mode = r.mode; active = r.active }
+  with_part r (sets_sp1 v) = record r { sp1 = v }
+  with_part r (sets_sp2 v) = record r { sp2 = v }
+  with_part r (sets_logic n) = record r { logic = n }
+  with_part r (sets_mode n) = record r { mode = n }
+  with_part r (sets_hysteresis n) = record r { hysteresis = n }
 
   abbrev pub with_parts : Row V → List (Part V) → Row V
   with_parts r [] = r
@@ -184,36 +184,32 @@ module _ {V : Type 0} where
 
   -- what an evaluation stores goes to the selected channel
   abbrev pub stored_parts : Verdict V → List (Part V)
-  stored_parts Open = []
-  stored_parts Fails = []
   stored_parts (Stores sp v) = setpoint_part sp v ∷ []
+  stored_parts v = []
 
   abbrev pub stored : Table V → ℕ → Verdict V → Table V
-  stored t k Open = t
-  stored t k Fails = t
   stored t k (Stores sp v) = given t k (setpoint_part sp v ∷ [])
+  stored t k v = t
 
   -- a step of the teach, over the channels as they stand
   abbrev pub taken : Held V → Table V → Goes V → Held V
-  taken h t g = record { keypad = h.keypad; selected = h.selected; lesson = stepped h.lesson g; channels = stored t h.selected g.verdict }
+  taken h t g = record h { lesson = stepped h.lesson g; channels = stored t h.selected g.verdict }
 
   -- a select drops the teach, and clears flags and what was taught
   abbrev pub selecting : Held V → ℕ → Table V → Held V
-  selecting h k t = record { keypad = h.keypad; selected = k; lesson = no_lesson; channels = t }
+  selecting h k t = record h { selected = k; lesson = no_lesson; channels = t }
 
   abbrev pub with_keypad : Held V → Bool → Held V
-  with_keypad h b = record { keypad = b; selected = h.selected; lesson = h.lesson; channels = h.channels }
+  with_keypad h b = record h { keypad = b }
 
   abbrev pub with_channels : Held V → Table V → Held V
-  with_channels h t = record { keypad = h.keypad; selected = h.selected; lesson = h.lesson; channels = t }
+  with_channels h t = record h { channels = t }
 
 module _ {V : Type 0} (m : Meaning V) (P : Fixed V) where
   -- a reading feeds the teach where it is a value
   abbrev pub heard : Stage V → Reading V → Goes V
   heard s (Value v) = fed m P.terms s v
-  heard s Below = goes s Keep
-  heard s Above = goes s Keep
-  heard s NoData = goes s Keep
+  heard s r = goes s Keep
 
   -- 21: the state's row has no such command, or Apply comes without both flags
   abbrev pub commanded : Place → Option (Goes V) → Result (Act V) Fault
@@ -289,39 +285,22 @@ module _ {V : Type 0} (m : Meaning V) (P : Fixed V) where
 
   -- the response to a request that is done: to a read what it shows, to a write 52 52
   abbrev pub request_granted : Act V → List ℕ
-  request_granted (samples r g) = write_reply
   request_granted (shows octets) = read_reply octets
-  request_granted (selects k) = write_reply
-  request_granted (commands g) = write_reply
-  request_granted (writes k ps) = write_reply
-  request_granted opens = write_reply
-  request_granted closes = write_reply
-  request_granted restarts = write_reply
+  request_granted a = write_reply
 
   -- what an accepted sample writes
   abbrev pub sample_granted : Held V → Act V → List ℕ
   sample_granted h (samples r g) = process_data h r
-  sample_granted h (shows octets) = []
-  sample_granted h (selects k) = []
-  sample_granted h (commands g) = []
-  sample_granted h (writes k ps) = []
-  sample_granted h opens = []
-  sample_granted h closes = []
-  sample_granted h restarts = []
+  sample_granted h a = []
 
   abbrev pub reply_by : Held V → Call → Result (Act V) Fault → Reply
   reply_by h (sample r room) (Ok a) = accepted (sample_granted h a)
-  reply_by h (sample r room) (Err f) = denied f []
   reply_by h (request frame room) (Ok a) = accepted (request_granted a)
-  reply_by h (request frame room) (Err f) = denied f (negative (decoded frame) f)
   reply_by h open_keypad (Ok a) = ticket P.serial
-  reply_by h open_keypad (Err f) = denied f []
-  reply_by h (write_keypad serial k n octets) (Ok a) = accepted []
-  reply_by h (write_keypad serial k n octets) (Err f) = denied f []
-  reply_by h (close_keypad serial) (Ok a) = accepted []
-  reply_by h (close_keypad serial) (Err f) = denied f []
-  reply_by h restart (Ok a) = accepted []
-  reply_by h restart (Err f) = denied f []
+  reply_by h c (Ok a) = accepted []
+  -- only a request is denied with a response
+  reply_by h (request frame room) (Err f) = denied f (negative (decoded frame) f)
+  reply_by h c (Err f) = denied f []
 
   abbrev pub reply : Held V → Call → Reply
   reply h c = reply_by h c (checked h c)

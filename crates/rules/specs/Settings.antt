@@ -5,45 +5,30 @@ use Rattle.faults.specs.declared.Fault.{Fault}
 use Rattle.kinds.specs.Meaning.{Meaning}
 use Rattle.channels.specs.declared.row.Row.{Row}
 use Rattle.channels.specs.Table.{row_at}
-use Rattle.rules.specs.Calls.{Call, Part, sets_sp1, sets_sp2, sets_logic, sets_mode, sets_hysteresis, Act, samples, shows, selects, commands, writes, opens, closes, restarts}
+use Rattle.rules.specs.Calls.{Call, Part, sets_sp1, sets_sp2, sets_logic, sets_mode, sets_hysteresis, Act, samples, commands, writes}
 use Rattle.rules.specs.Rules.{Fixed, Held, after, checked, next, stored_parts}
 
 module _ {V : Type 0} where
   -- the value that a part brings for a setting, if it is of that setting
   abbrev pub sp1_of : Part V → Option V
   sp1_of (sets_sp1 v) = Some v
-  sp1_of (sets_sp2 v) = None
-  sp1_of (sets_logic n) = None
-  sp1_of (sets_mode n) = None
-  sp1_of (sets_hysteresis n) = None
+  sp1_of p = None
 
   abbrev pub sp2_of : Part V → Option V
-  sp2_of (sets_sp1 v) = None
   sp2_of (sets_sp2 v) = Some v
-  sp2_of (sets_logic n) = None
-  sp2_of (sets_mode n) = None
-  sp2_of (sets_hysteresis n) = None
+  sp2_of p = None
 
   abbrev pub logic_of : Part V → Option ℕ
-  logic_of (sets_sp1 v) = None
-  logic_of (sets_sp2 v) = None
   logic_of (sets_logic n) = Some n
-  logic_of (sets_mode n) = None
-  logic_of (sets_hysteresis n) = None
+  logic_of p = None
 
   abbrev pub mode_of : Part V → Option ℕ
-  mode_of (sets_sp1 v) = None
-  mode_of (sets_sp2 v) = None
-  mode_of (sets_logic n) = None
   mode_of (sets_mode n) = Some n
-  mode_of (sets_hysteresis n) = None
+  mode_of p = None
 
   abbrev pub hysteresis_of : Part V → Option ℕ
-  hysteresis_of (sets_sp1 v) = None
-  hysteresis_of (sets_sp2 v) = None
-  hysteresis_of (sets_logic n) = None
-  hysteresis_of (sets_mode n) = None
   hysteresis_of (sets_hysteresis n) = Some n
+  hysteresis_of p = None
 
   -- the latest value of a setting among parts, else the earlier one
   abbrev pub latest : {A : Type 0} → (Part V → Option A) → A → List (Part V) → A
@@ -53,13 +38,9 @@ module _ {V : Type 0} where
   -- what an accepted call gives the settings of channel k: a write to it, or what a teach of it stores
   abbrev given_by : ℕ → Held V → Act V → List (Part V)
   given_by k h (samples r g) = cond (h.selected == k) (stored_parts g.verdict) []
-  given_by k h (shows octets) = []
-  given_by k h (selects j) = []
   given_by k h (commands g) = cond (h.selected == k) (stored_parts g.verdict) []
   given_by k h (writes j ps) = cond (j == k) ps []
-  given_by k h opens = []
-  given_by k h closes = []
-  given_by k h restarts = []
+  given_by k h a = []
 
   abbrev pub gives : ℕ → Held V → Result (Act V) Fault → List (Part V)
   gives k h (Ok a) = given_by k h a

@@ -9,8 +9,8 @@ use Rattle.teach.specs.declared.command.Setpoint.TheVariants.{Sp1, Sp2}
 use Rattle.teach.specs.declared.command.Teachpoint.{Teachpoint}
 use Rattle.teach.specs.declared.command.Teachpoint.TheVariants.{Tp1, Tp2}
 use Rattle.teach.specs.declared.machine.Verdict.TheVariants.{Stores}
-use Rattle.rules.specs.Lessons.{Stage, idle, busy_single, busy_two, wait_two, dyn_start, wait_dyn}
-use Rattle.rules.specs.Calls.{Call, Act, samples, shows, selects, commands, writes, opens, closes, restarts}
+use Rattle.rules.specs.Lessons.{Stage, busy_single, busy_two, dyn_start, wait_dyn}
+use Rattle.rules.specs.Calls.{Call, Act, commands}
 use Rattle.rules.specs.Rules.{Fixed, Held, after, checked, next}
 use Rattle.rules.specs.Events.{resting, value_of, verdict_of}
 
@@ -21,41 +21,28 @@ pub data Purpose : Type 0 where
 
 abbrev pub same_teachpoint : Teachpoint → Teachpoint → Bool
 same_teachpoint Tp1 Tp1 = true
-same_teachpoint Tp1 Tp2 = false
-same_teachpoint Tp2 Tp1 = false
 same_teachpoint Tp2 Tp2 = true
+same_teachpoint a b = false
 
 module _ {V : Type 0} where
   -- what a teach at this stage captures values for
   abbrev pub capturing : Stage V → Option Purpose
-  capturing idle = None
   capturing (busy_single sp vs) = Some whole
   capturing (busy_two sp tp vs p) = Some (point tp)
-  capturing (wait_two sp p) = None
   capturing (dyn_start sp) = Some whole
   capturing (wait_dyn sp k) = Some whole
+  capturing s = None
 
   -- a Start discards what was captured, and a teachpoint that is taken again its earlier values: told by the stage that the
   -- command leads to
   abbrev pub taken_anew : Purpose → Stage V → Bool
-  taken_anew x idle = false
-  taken_anew x (busy_single sp vs) = false
-  taken_anew whole (busy_two sp tp vs p) = false
   taken_anew (point x) (busy_two sp tp vs p) = same_teachpoint x tp
-  taken_anew x (wait_two sp p) = false
   taken_anew whole (dyn_start sp) = true
-  taken_anew (point x) (dyn_start sp) = false
-  taken_anew x (wait_dyn sp k) = false
+  taken_anew x s = false
 
   abbrev discards_by : Purpose → Act V → Bool
-  discards_by x (samples r g) = false
-  discards_by x (shows octets) = false
-  discards_by x (selects k) = false
   discards_by x (commands g) = taken_anew x g.stage
-  discards_by x (writes k ps) = false
-  discards_by x opens = false
-  discards_by x closes = false
-  discards_by x restarts = false
+  discards_by x a = false
 
   -- the call discards what was captured for x
   abbrev pub discards : Purpose → Result (Act V) Fault → Bool

@@ -20,16 +20,7 @@ use Rattle.sensor.specs.Devices.{stored, with_channels, with_teach}
 module _ {V : Type 0} where
   -- a select drops the teach, clears flags, TeachState and what was taught
   abbrev pub with_selection : Device V → ℕ → Device V
-  with_selection d k = record {
-    serial = d.serial;
-    range = d.range;
-    scale = d.scale;
-    keypad = d.keypad;
-    selected = k;
-    terms = d.terms;
-    teach = idle;
-    channels = d.channels;
-  }
+  with_selection d k = record d { selected = k; teach = idle }
 
   -- n is over the number of channels that are present
   abbrev pub past_count : Device V → ℕ → Bool

@@ -14,29 +14,11 @@ use Rattle.sensor.specs.declared.sensor.Sensor.{Sensor}
 module _ {V : Type 0} where
   -- the device with another channel table, all else as it was
   abbrev pub with_channels : Device V → Table V → Device V
-  with_channels d t = record {
-    serial = d.serial;
-    range = d.range;
-    scale = d.scale;
-    keypad = d.keypad;
-    selected = d.selected;
-    terms = d.terms;
-    teach = d.teach;
-    channels = t;
-  }
+  with_channels d t = record d { channels = t }
 
   -- the device with another teach
   abbrev pub with_teach : Device V → Teach V → Device V
-  with_teach d t = record {
-    serial = d.serial;
-    range = d.range;
-    scale = d.scale;
-    keypad = d.keypad;
-    selected = d.selected;
-    terms = d.terms;
-    teach = t;
-    channels = d.channels;
-  }
+  with_teach d t = record d { teach = t }
 
   -- a row with another setpoint: all its other settings and its state stay
   abbrev pub with_setpoint : Row V → Setpoint → V → Row V

@@ -43,16 +43,7 @@ setpoint_named n = cond (n == 1) (Ok Sp1) (cond (n == 2) (Ok Sp2) (Err (fault No
 module _ {V : Type 0} where
   -- the device with a keypad operation open or not, all else as it was
   abbrev pub with_keypad : Device V → Bool → Device V
-  with_keypad d b = record {
-    serial = d.serial;
-    range = d.range;
-    scale = d.scale;
-    keypad = b;
-    selected = d.selected;
-    terms = d.terms;
-    teach = d.teach;
-    channels = d.channels;
-  }
+  with_keypad d b = record d { keypad = b }
 
   -- an opening. 22: an operation is open already. 23: the teach is not idle
   abbrev pub opened : Device V → Result (Device V) Fault

@@ -42,9 +42,7 @@ module _ {V : Type 0} (m : Meaning V) where
   -- then a value feeds the teach, and what it completes is stored; nothing else is captured or counted
   abbrev pub fed_device : Device V → Reading V → Device V
   fed_device d (Value v) = stored (with_teach d (fed_teach m d.terms d.teach v)) (fed_store m d.terms d.teach v)
-  fed_device d Below = d
-  fed_device d Above = d
-  fed_device d NoData = d
+  fed_device d r = d
 
   abbrev pub sampled : Device V → Reading V → Device V
   sampled d r = fed_device (judged_device d r) (counted_in d r)

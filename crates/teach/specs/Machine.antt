@@ -30,9 +30,8 @@ use Rattle.teach.specs.Teachpoints.{with_teachpoint}
 
 abbrev pub same_setpoint : Setpoint → Setpoint → Bool
 same_setpoint Sp1 Sp1 = true
-same_setpoint Sp1 Sp2 = false
-same_setpoint Sp2 Sp1 = false
 same_setpoint Sp2 Sp2 = true
+same_setpoint a b = false
 
 abbrev pub no_points : {V : Type 0} → Teachpoints (Option V)
 no_points = record { tp1 = None; tp2 = None }
@@ -68,33 +67,21 @@ module _ {V : Type 0} where
 module _ {V : Type 0} (m : Meaning V) (flags : Flags) (t : Terms) where
   -- Apply evaluates both teachpoints; it has no row where one is missing
   abbrev pub applied : Setpoint → Option V → Option V → Option (Moved V)
-  applied sp None b = None
-  applied sp (Some a) None = None
   applied sp (Some a) (Some b) = ends (evaluate_two m t sp a b)
+  applied sp a b = None
 
   -- the table: a command's row in each state; none where the state has no such row
   abbrev pub row : State V → Step → Command → Option (Moved V)
   row Idle Single c = begins c.setpoint (BusySingle c.setpoint None)
   row Idle Point c = begins c.setpoint (BusyTwo c.setpoint c.teachpoint None no_points)
   row Idle Start c = begins c.setpoint (DynStart c.setpoint)
-  row Idle Apply c = None
-  row Idle Stop c = None
-  row Idle Cancel c = None
-  row (BusySingle sp k) other c = None
-  row (BusyTwo sp tp k p) other c = None
   row (WaitTwo sp p) Point c = only (same_setpoint sp c.setpoint) (goes (BusyTwo sp c.teachpoint None p))
   row (WaitTwo sp p) Apply c = only (both_set flags sp) (applied sp p.tp1 p.tp2)
   row (WaitTwo sp p) Cancel c = drops sp
-  row (WaitTwo sp p) Single c = None
-  row (WaitTwo sp p) Start c = None
-  row (WaitTwo sp p) Stop c = None
-  row (DynStart sp) other c = None
   row (WaitDyn sp s) Start c = only (same_setpoint sp c.setpoint) (goes (DynStart sp))
   row (WaitDyn sp s) Stop c = only (same_setpoint sp c.setpoint) (ends (evaluate_dynamic m t sp s.lowest s.highest))
   row (WaitDyn sp s) Cancel c = drops sp
-  row (WaitDyn sp s) Apply c = None
-  row (WaitDyn sp s) Single c = None
-  row (WaitDyn sp s) Point c = None
+  row s other c = None
 
   -- 21: the command is not in the state's row, or Apply without both flags
   abbrev pub reply_by : Place → Option (Moved V) → Result (Effect V) Fault
@@ -130,9 +117,8 @@ module _ {V : Type 0} (m : Meaning V) (t : Terms) where
 
   -- a value: captured in the Busy states, by Dyn Start and by Wait Dyn
   abbrev pub fed : State V → V → Moved V
-  fed Idle v = moved Idle Keep Open
   fed (BusySingle sp k) v = single_fed sp (taken m k v)
   fed (BusyTwo sp tp k p) v = two_fed sp tp p (taken m k v)
-  fed (WaitTwo sp p) v = moved (WaitTwo sp p) Keep Open
   fed (DynStart sp) v = moved (WaitDyn sp (span_of v)) Keep Open
   fed (WaitDyn sp s) v = moved (WaitDyn sp (widened m s v)) Keep Open
+  fed s v = moved s Keep Open

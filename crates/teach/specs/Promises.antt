@@ -19,12 +19,9 @@ use Rattle.teach.specs.Machine.{Moved, fed, row}
 module _ {V : Type 0} where
   -- the Busy states capture and count
   abbrev pub is_busy : State V → Bool
-  is_busy Idle = false
   is_busy (BusySingle sp k) = true
   is_busy (BusyTwo sp tp k p) = true
-  is_busy (WaitTwo sp p) = false
-  is_busy (DynStart sp) = false
-  is_busy (WaitDyn sp s) = false
+  is_busy s = false
 
 module _ {V : Type 0} (m : Meaning V) (t : Terms) where
   -- the state after values, one after the other

@@ -29,25 +29,19 @@ module _ {V : Type 0} where
 
   abbrev pub is_idle : State V → Bool
   is_idle Idle = true
-  is_idle (BusySingle sp k) = false
-  is_idle (BusyTwo sp tp k p) = false
-  is_idle (WaitTwo sp p) = false
-  is_idle (DynStart sp) = false
-  is_idle (WaitDyn sp s) = false
+  is_idle s = false
 
   -- a setpoint is taught once it is stored
   abbrev pub taught_by : Setpoint → Verdict V → Bool → Bool
-  taught_by sp Open b = b
-  taught_by sp Fails b = b
   taught_by sp (Stores s v) b = same_setpoint s sp || b
+  taught_by sp v b = b
 
   -- a failure shows until a teach begins, is cancelled or stores
   abbrev pub failed_by : Change → Verdict V → Bool → Bool
   failed_by c Fails b = true
   failed_by c (Stores s v) b = false
-  failed_by Keep Open b = b
   failed_by (Clear sp) Open b = false
-  failed_by (Set sp tp) Open b = b
+  failed_by c Open b = b
 
   -- the effect of a step on all but the machine's state
   abbrev pub settled : Teach V → Effect V → Teach V
@@ -60,7 +54,7 @@ module _ {V : Type 0} where
   }
 
   abbrev pub with_state : Teach V → State V → Teach V
-  with_state t s = record { state = s; flags = t.flags; taught_sp1 = t.taught_sp1; taught_sp2 = t.taught_sp2; failed = t.failed }
+  with_state t s = record t { state = s }
 
   -- the teach after a step
   abbrev pub stepped : Teach V → Moved V → Teach V
@@ -68,18 +62,15 @@ module _ {V : Type 0} where
 
   -- what a step stores: nothing unless an evaluation succeeds
   abbrev pub store_of : Verdict V → Option (Store V)
-  store_of Open = None
-  store_of Fails = None
   store_of (Stores sp v) = Some (record { setpoint = sp; value = v })
+  store_of v = None
 
   -- TeachState: 5 in the Busy states and Dyn Start, 4 in the Wait states, 7 after a failure, else 1 for SP1 plus 2 for SP2
   abbrev pub teach_state : Teach V → State V → ℕ
   teach_state t Idle = cond t.failed 7 (cond t.taught_sp1 1 0 + 2 * cond t.taught_sp2 1 0)
-  teach_state t (BusySingle sp k) = 5
-  teach_state t (BusyTwo sp tp k p) = 5
   teach_state t (WaitTwo sp p) = 4
-  teach_state t (DynStart sp) = 5
-  teach_state t (WaitDyn sp s) = 4
+  teach_state t (WaitDyn sp k) = 4
+  teach_state t s = 5
 
   -- TeachState in bits 0 to 3, the flags in bits 4 to 7
   abbrev pub teach_result : Teach V → ℕ
