@@ -1,0 +1,331 @@
+#!/usr/bin/env python3
+"""Measures the proved core beside the same rules by hand in C and in Rust, and prints the tables of docs/PERFORMANCE.md.
+
+usage: perf/run.py [FOLDER]     FOLDER keeps what is built; without it a new one is made and removed again
+
+It needs rt, gcc, rustc and valgrind. A call is a row of 64 octets: what is called, the number of its octets, the length of
+the buffer that it lends, the octets (perf/core/lib.rt.txt).
+"""
+import random
+import re
+import shutil
+import struct
+import subprocess
+import sys
+import tempfile
+from pathlib import Path
+
+TOP = Path(__file__).resolve().parent.parent
+PERF = TOP / "perf"
+CRATES = ["octets", "numbers", "faults", "isdu", "kinds", "channels", "teach", "objects", "sensor"]
+EXPORTS = "perf_core staticlib: octets faults kinds channels teach sensor"
+CPU = "x86-64-v2"  # what rt builds for
+KINDS = ["IntegerT16", "IntegerT32", "Float32T"]
+MAKERS = ["core", "c", "rust"]
+SETUP, SAMPLE, BELOW, ABOVE, NO_DATA, REQUEST = range(1, 7)
+
+
+def told(command, **more):
+    done = subprocess.run([str(word) for word in command], stdout=subprocess.PIPE, stderr=subprocess.PIPE, **more)
+    if done.returncode != 0:
+        sys.exit(f"{' '.join(map(str, command))}: status {done.returncode}\n{done.stdout.decode()}{done.stderr.decode()}")
+    return done
+
+
+# The three are built into one program.
+
+
+def build_core(work):
+    for name in CRATES:
+        target = work / "crates" / name
+        for part in ("src", "specs", "proofs"):
+            shutil.rmtree(target / part, ignore_errors=True)
+            if (TOP / "crates" / name / part).is_dir():
+                shutil.copytree(TOP / "crates" / name / part, target / part)
+    lines = (TOP / "crates.txt").read_text().splitlines()
+    kept = [line for line in lines if line.split(":")[0] in CRATES]
+    (work / "crates.txt").write_text("\n".join(kept + [EXPORTS]) + "\n")
+    source = work / "crates" / "perf_core" / "src"
+    source.mkdir(parents=True, exist_ok=True)
+    shutil.copy(PERF / "core" / "lib.rt.txt", source / "lib.rt")
+    told(["rt", "lib"], cwd=source.parent)
+    return source.parent / "out" / "libperf_core.a"
+
+
+def build(work):
+    core = build_core(work)
+    by_hand, rust, main, bench = (work / name for name in ("hand.o", "libhand.a", "main.o", "bench"))
+    gcc = ["gcc", "-std=gnu11", "-O3", f"-march={CPU}", "-ffp-contract=off", "-Wall", "-Wextra", "-c"]
+    told(gcc + [PERF / "hand.c", "-o", by_hand])
+    told(gcc + [PERF / "main.c", "-o", main])
+    told(["rustc", "--edition=2024", "-Copt-level=3", "-Ccodegen-units=1", "-Cpanic=abort", f"-Ctarget-cpu={CPU}",
+          PERF / "hand.rs", "-o", rust])
+    told(["gcc", main, by_hand, core, rust, "-lpthread", "-ldl", "-lm", "-o", bench])
+    return bench
+
+
+# Rows of calls.
+
+
+def row(what, octets=b"", room=16):
+    return (bytes([what, len(octets), room]) + octets).ljust(64, b"\0")
+
+
+def value(kind, number):
+    return struct.pack((">h", ">i", ">f")[kind], number)
+
+
+def setup(kind, channels, capture=1, spread=20, distance=10):
+    low = value(kind, -100)
+    fixed = struct.pack(">IBbBHHB", 7, channels, -1, capture, spread, distance, len(low))
+    return row(SETUP, fixed + low + value(kind, 10_000))
+
+
+def framed(service, body):
+    """A frame with its check octet, its length in the first octet or in the second."""
+    total = len(body) + 2
+    head = bytes([service << 4 | total]) if total <= 15 else bytes([service << 4 | 1, total + 1])
+    check = 0
+    for octet in head + body:
+        check ^= octet
+    return head + body + bytes([check])
+
+
+def address(index, subindex):
+    if index > 255:
+        return 2, struct.pack(">HB", index, subindex)
+    return (1, bytes([index, subindex])) if subindex else (0, bytes([index]))
+
+
+def write(index, subindex, data):
+    form, place = address(index, subindex)
+    return row(REQUEST, framed(0x1 + form, place + data))
+
+
+def read(index, subindex=0):
+    form, place = address(index, subindex)
+    return row(REQUEST, framed(0x9 + form, place))
+
+
+def command(code):
+    return write(2, 0, bytes([code]))
+
+
+def setpoints_index(channel):
+    return 58 + 2 * channel if channel <= 2 else 0x4000 + 2 * (channel - 3)
+
+
+def sensor(kind, channels, mode, **more):
+    """A sensor that is set up, each channel with SP1 2000, SP2 1000, the mode, and a hysteresis of 5."""
+    rows = setup(kind, channels, **more)
+    for channel in range(1, channels + 1):
+        index = setpoints_index(channel)
+        rows += write(index, 0, value(kind, 2000) + value(kind, 1000)) + write(index + 1, 0, bytes([0, mode, 0, 5]))
+    return rows
+
+
+def cases(kind):
+    """Each with its name, the rows made once, and those that are measured, with the number that they count as."""
+    samples = [row(SAMPLE, value(kind, n)) for n in (999, 1000, 994, 2000, 2005, 2006, 1500, 500)]
+    for channels in (1, 8):
+        for mode, name in enumerate(("Deactivated", "Single Point", "Window", "Two Point")):
+            yield f"sample, {channels} channel{'s' * (channels > 1)}, {name}", sensor(kind, channels, mode), b"".join(samples), 8
+    eight = sensor(kind, 8, 1)
+    bad_check = bytearray(write(60, 1, value(kind, 1500)))
+    bad_check[2 + bad_check[1]] ^= 1
+    yield "write of a setpoint", eight, write(60, 1, value(kind, 1500)) + write(60, 1, value(kind, 1600)), 2
+    yield "read of both setpoints", eight, read(60), 1
+    yield "frame refused: check octet", eight, bytes(bad_check), 1
+    yield "write refused: above the range", eight, write(60, 1, value(kind, 10_001)), 1
+    taught = b"".join(row(SAMPLE, value(kind, n)) for n in (1500, 1504, 1498, 1502))
+    yield "teach of one value", sensor(kind, 1, 1, capture=4), command(0x41) + taught, 1
+    higher = b"".join(row(SAMPLE, value(kind, n)) for n in (1700, 1704, 1698, 1702))
+    two = command(0x43) + taught + command(0x44) + higher + command(0x40)
+    yield "teach of two values", sensor(kind, 1, 1, capture=4), two, 1
+
+
+# Calls that all three must answer alike, octet for octet.
+
+
+def octets_of(word):
+    return b"" if word == "-" else bytes.fromhex(word)
+
+
+def session_row(words):
+    """The row of a line of a session script, if it is a call that fits into a row."""
+    room = 16
+    if "into" in words:
+        room = int(words[-1])
+        words = words[: words.index("into")]
+    if words[0] == "setup":
+        field = dict(word.split("=") for word in words[1:])
+        low, high = octets_of(field["low"]), octets_of(field["high"])
+        numbers = (int(field[name]) for name in ("serial", "channels", "scale", "capture", "spread", "distance"))
+        return row(SETUP, struct.pack(">IBbBHHB", *numbers, len(low)) + low + high)
+    if words[0] == "sample":
+        what = {"below": BELOW, "above": ABOVE, "nodata": NO_DATA}.get(words[1])
+        made = row(what, room=min(room, 64)) if what else row(SAMPLE, octets_of(words[1]), min(room, 64))
+    elif words[0] == "request":
+        frame = octets_of("".join(words[1:]))
+        made = row(REQUEST, frame, min(room, 64)) if len(frame) <= 61 else b""
+    else:
+        return b""
+    return made if len(made) == 64 else b""
+
+
+def sessions():
+    """The scripts of sessions/, as pairs of a kind and rows."""
+    for script in sorted((TOP / "sessions").glob("*.session")):
+        kind, rows = 0, b""
+        for line in script.read_text().splitlines():
+            words = line.split("#")[0].split()
+            if words and words[0] == "sensor":
+                if rows:
+                    yield kind, rows
+                kind, rows = ["int16", "int32", "float32"].index(words[1]), b""
+            elif words:
+                rows += session_row(words)
+        yield kind, rows
+
+
+def any_octets(random, kind):
+    """Octets of a value, mostly within the range, or of none."""
+    if random.random() < 0.1:
+        return random.randbytes(random.choice([0, 1, 2, 3, 4, 4, 5]))
+    if random.random() < 0.1:
+        return random.choice([b"\x7f\xf8\0\0", b"\x80\0\0\0", b"\xff\x80\0\0", b"\x7f\xff\xff\xff"])[: (2, 4, 4)[kind]]
+    return value(kind, random.choice([random.randint(-200, 10_200), random.randint(990, 1010), -100, 10_000]))
+
+
+def any_request(random, kind):
+    index = random.choice([2, 2, 2, 58, 59, 59, 60, 61, 62, 63, 0x4000, 0x4001, 0x4009, 0x400A, 0x400B, 99, 0x400C])
+    subindex = random.choice([0, 0, 0, 1, 1, 2, 3, 4])
+    if index in (2, 58, 59):
+        subindex = random.choice([0] * 9 + [1])
+    if random.random() < 0.4:
+        return read(index, subindex)
+    data = {2: bytes([random.choice([*range(0x40, 0x4B), 0x4F, 0x4B, 0x10])]), 58: bytes([random.randint(0, 9)])}.get(index)
+    if data is None and index % 2 == 0:
+        data = any_octets(random, kind) + (any_octets(random, kind) if subindex == 0 else b"")
+    elif data is None:
+        data = bytes([random.choice([0, 1, 1, 2]), random.choice([0, 1, 2, 3, 4]), 0, random.randint(0, 60)])
+        data = [data, data[:1], data[1:2], data[2:], data][subindex]
+    data = data or b"\0"
+    if random.random() < 0.05:
+        data += random.randbytes(random.choice([1, 2, 20]))
+    made = bytearray(write(index, subindex, data))
+    if random.random() < 0.05:
+        made[random.randrange(3, 3 + made[1])] ^= 1 << random.randrange(8)
+    return bytes(made)
+
+
+def any_calls(random, kind, count):
+    """Calls of every sort; most are accepted."""
+    rows = b""
+    for _ in range(count):
+        sort = random.random()
+        if sort < 0.01:
+            rows += setup(kind, random.choice([*range(1, 9), 0, 9, 8]), random.choice([0, 1, 1, 2, 3, 65]), random.randint(0, 40), random.randint(0, 40))
+        elif sort < 0.45:
+            rows += row(SAMPLE, any_octets(random, kind), random.choice([16] * 20 + [3, 4, 5, 6]))
+        elif sort < 0.5:
+            rows += row(random.choice([BELOW, ABOVE, NO_DATA]))
+        else:
+            made = bytearray(any_request(random, kind))
+            made[2] = random.choice([16] * 30 + [64, 15, 0])
+            rows += bytes(made)
+    return rows
+
+
+def compare(bench, work):
+    """Makes the same calls on all three, and stops at the first that differs."""
+    seeded = random.Random(1)
+    runs = list(sessions()) + [(kind, any_calls(seeded, kind, 30_000)) for kind in range(3)]
+    calls = accepted = 0
+    for kind, rows in runs:
+        (work / "rows").write_bytes(rows)
+        logs = [told([bench, maker, "trace", kind, work / "rows"]).stdout for maker in MAKERS]
+        for at in range(0, len(logs[0]), 68):
+            seen = [log[at : at + 68] for log in logs]
+            if seen[0] != seen[1] or seen[0] != seen[2]:
+                call = rows[at // 68 * 64 :][:64]
+                shown = "\n".join(f"{maker}: {log.hex(' ')}" for maker, log in zip(MAKERS, seen))
+                sys.exit(f"{KINDS[kind]}: call {at // 68} differs: {call.hex(' ')}\n{shown}")
+            calls += 1
+            accepted += seen[0][0] == 0
+    print(f"{calls} calls, {accepted} of them accepted: all three gave the same replies and buffers.\n")
+
+
+# Counts and times.
+
+
+def instructions(bench, maker, kind, first, rows, times):
+    counted = told(["valgrind", "--tool=callgrind", "--callgrind-out-file=/dev/null", "--toggle-collect=*timed_*",
+                    bench, maker, "run", kind, first, rows, times])
+    return int(re.search(rb"Collected : (\d+)", counted.stderr).group(1)), counted.stdout.split()[0]
+
+
+def nanoseconds(bench, kind, first, rows, times):
+    """The least of some runs, one after the other for each of the three."""
+    best = dict.fromkeys(MAKERS, float("inf"))
+    for _ in range(15):
+        for maker in MAKERS:
+            best[maker] = min(best[maker], float(told([bench, maker, "run", kind, first, rows, times]).stdout.split()[1]))
+    return best
+
+
+def measure(bench, work, kind, name, first, rows, count):
+    """The instructions and the nanoseconds of each of the three, in one case."""
+    first_file, rows_file, empty_file = work / "first", work / "rows", work / "empty"
+    first_file.write_bytes(first)
+    rows_file.write_bytes(rows)
+    empty_file.write_bytes(row(0) * (len(rows) // 64))
+    counts, sums = {}, set()
+    for maker in MAKERS:
+        few, _ = instructions(bench, maker, kind, first_file, rows_file, 10)
+        many, total = instructions(bench, maker, kind, first_file, rows_file, 110)
+        counts[maker] = (many - few) / 100 / count
+        sums.add(total)
+    if len(sums) != 1:
+        sys.exit(f"{KINDS[kind]}, {name}: the sums differ: {sums}")
+    times = 200_000 // (len(rows) // 64)
+    whole = nanoseconds(bench, kind, first_file, rows_file, times)
+    empty = nanoseconds(bench, kind, first_file, empty_file, times)
+    return counts, {maker: (whole[maker] - empty[maker]) / times / count for maker in MAKERS}
+
+
+def table(bench, work):
+    print("| case | kind | core | C | Rust | core / C | core / Rust | ns core | ns C | ns Rust |")
+    print("|---|---|--:|--:|--:|--:|--:|--:|--:|--:|")
+    worst = 0
+    for lines in zip(*(list(cases(kind)) for kind in range(3))):
+        for kind, (name, first, rows, count) in enumerate(lines):
+            n, ns = measure(bench, work, kind, name, first, rows, count)
+            worst = max(worst, n["core"] / n["c"])
+            print(f"| {name} | {KINDS[kind]} | {n['core']:.0f} | {n['c']:.0f} | {n['rust']:.0f} | {n['core'] / n['c']:.2f} "
+                  f"| {n['core'] / n['rust']:.2f} | {ns['core']:.1f} | {ns['c']:.1f} | {ns['rust']:.1f} |", flush=True)
+    print(f"\nHighest ratio of instructions, core to C: {worst:.2f}\n")
+
+
+def sizes(bench):
+    print("| size of a sensor in octets | core | C | Rust |")
+    print("|---|--:|--:|--:|")
+    for kind, name in enumerate(KINDS):
+        print(f"| {name} | " + " | ".join(told([bench, maker, "size", kind]).stdout.decode().strip() for maker in MAKERS) + " |")
+
+
+def main():
+    work = Path(sys.argv[1] if len(sys.argv) > 1 else tempfile.mkdtemp(prefix="perf-")).resolve()
+    work.mkdir(parents=True, exist_ok=True)
+    try:
+        bench = build(work)
+        compare(bench, work)
+        table(bench, work)
+        sizes(bench)
+    finally:
+        if len(sys.argv) == 1:
+            shutil.rmtree(work)
+
+
+if __name__ == "__main__":
+    main()
