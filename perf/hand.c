@@ -1,4 +1,4 @@
-/* The same rules by hand in C: docs/RULES.md. hand_kind.h has what is written once for each kind. */
+/* The same rules by hand in C: docs/RULES.md. KIND is the kind of measured value: 0, 1 or 2. */
 #include <stdbool.h>
 #include <stddef.h>
 #include <stdint.h>
@@ -255,15 +255,16 @@ static inline uint8_t flags_of(uint8_t setpoint)
     return setpoint == 0 ? 0x30 : 0xc0;
 }
 
-/* IntegerT16. */
-#define N(name) name##_int16
-#define VALUE_TYPE int16_t
+/* The kinds. */
+
+#if KIND == 0 /* IntegerT16 */
+typedef int16_t value;
 #define WIDTH 2
 #define LOWEST_END (-32000)
 #define HIGHEST_END 32000
-static const uint8_t substitutes_int16[3][2] = { { 0x80, 0x08 }, { 0x7f, 0xf8 }, { 0x7f, 0xfc } };
+static const uint8_t substitutes[3][2] = { { 0x80, 0x08 }, { 0x7f, 0xf8 }, { 0x7f, 0xfc } };
 
-static inline bool read_int16(const uint8_t *octets, size_t n, int16_t *v)
+static inline bool read_value(const uint8_t *octets, size_t n, int16_t *v)
 {
     if (n != 2)
         return false;
@@ -271,40 +272,38 @@ static inline bool read_int16(const uint8_t *octets, size_t n, int16_t *v)
     return true;
 }
 
-static inline void write_int16(int16_t v, uint8_t *out)
+static inline void write_value(int16_t v, uint8_t *out)
 {
     store16(out, (uint16_t)v);
 }
 
-static inline int16_t raise_int16(int16_t v, uint16_t steps)
+static inline int16_t raised(int16_t v, uint16_t steps)
 {
     int32_t sum = (int32_t)v + steps;
     return (int16_t)(sum > INT16_MAX ? INT16_MAX : sum);
 }
 
-static inline int16_t lower_int16(int16_t v, uint16_t steps)
+static inline int16_t lowered(int16_t v, uint16_t steps)
 {
     int32_t difference = (int32_t)v - steps;
     return (int16_t)(difference < INT16_MIN ? INT16_MIN : difference);
 }
 
-static inline int16_t middle_int16(int16_t a, int16_t b)
+static inline int16_t middle_of(int16_t a, int16_t b)
 {
     return (int16_t)(((int32_t)a + b) >> 1);
 }
-#include "hand_kind.h"
 
-/* IntegerT32. */
-#define N(name) name##_int32
-#define VALUE_TYPE int32_t
+#elif KIND == 1 /* IntegerT32 */
+typedef int32_t value;
 #define WIDTH 4
 #define LOWEST_END (-2000000000)
 #define HIGHEST_END 2000000000
-static const uint8_t substitutes_int32[3][4] = {
+static const uint8_t substitutes[3][4] = {
     { 0x80, 0x00, 0x00, 0x08 }, { 0x7f, 0xff, 0xff, 0xf8 }, { 0x7f, 0xff, 0xff, 0xfc },
 };
 
-static inline bool read_int32(const uint8_t *octets, size_t n, int32_t *v)
+static inline bool read_value(const uint8_t *octets, size_t n, int32_t *v)
 {
     if (n != 4)
         return false;
@@ -312,40 +311,38 @@ static inline bool read_int32(const uint8_t *octets, size_t n, int32_t *v)
     return true;
 }
 
-static inline void write_int32(int32_t v, uint8_t *out)
+static inline void write_value(int32_t v, uint8_t *out)
 {
     store32(out, (uint32_t)v);
 }
 
-static inline int32_t raise_int32(int32_t v, uint16_t steps)
+static inline int32_t raised(int32_t v, uint16_t steps)
 {
     int64_t sum = (int64_t)v + steps;
     return (int32_t)(sum > INT32_MAX ? INT32_MAX : sum);
 }
 
-static inline int32_t lower_int32(int32_t v, uint16_t steps)
+static inline int32_t lowered(int32_t v, uint16_t steps)
 {
     int64_t difference = (int64_t)v - steps;
     return (int32_t)(difference < INT32_MIN ? INT32_MIN : difference);
 }
 
-static inline int32_t middle_int32(int32_t a, int32_t b)
+static inline int32_t middle_of(int32_t a, int32_t b)
 {
     return (int32_t)(((int64_t)a + b) >> 1);
 }
-#include "hand_kind.h"
 
-/* Float32T. */
-#define N(name) name##_float32
-#define VALUE_TYPE float
+#else /* Float32T */
+typedef float value;
 #define WIDTH 4
 #define LOWEST_END (-1000000.0f)
 #define HIGHEST_END 1000000.0f
-static const uint8_t substitutes_float32[3][4] = {
+static const uint8_t substitutes[3][4] = {
     { 0xff, 0x80, 0x00, 0x00 }, { 0x7f, 0x80, 0x00, 0x00 }, { 0x7f, 0xc0, 0x00, 0x00 },
 };
 
-static inline bool read_float32(const uint8_t *octets, size_t n, float *v)
+static inline bool read_value(const uint8_t *octets, size_t n, float *v)
 {
     if (n != 4)
         return false;
@@ -358,24 +355,24 @@ static inline bool read_float32(const uint8_t *octets, size_t n, float *v)
     return true;
 }
 
-static inline void write_float32(float v, uint8_t *out)
+static inline void write_value(float v, uint8_t *out)
 {
     uint32_t pattern;
     memcpy(&pattern, &v, sizeof pattern);
     store32(out, pattern);
 }
 
-static inline float raise_float32(float v, uint16_t steps)
+static inline float raised(float v, uint16_t steps)
 {
     return v + (float)steps * 0.0009765625f;
 }
 
-static inline float lower_float32(float v, uint16_t steps)
+static inline float lowered(float v, uint16_t steps)
 {
     return v - (float)steps * 0.0009765625f;
 }
 
-static inline float middle_float32(float a, float b)
+static inline float middle_of(float a, float b)
 {
     float lower = a <= b ? a : b;
     float higher = a <= b ? b : a;
@@ -386,35 +383,514 @@ static inline float middle_float32(float a, float b)
         sum = higher;
     return sum == 0.0f ? 0.0f : sum;
 }
-#include "hand_kind.h"
 
-/* The calls of the rows, as perf/core makes them. */
+#endif
 
-void hand_c_trace(uint32_t kind, const uint8_t *rows, size_t n, uint8_t *log, size_t log_length)
+/* The sensor. */
+
+struct row {
+    uint16_t hysteresis;
+    uint8_t logic;
+    uint8_t mode;
+    bool active;
+    value sp1;
+    value sp2;
+};
+
+struct teach {
+    uint8_t state;
+    uint8_t setpoint;   /* 0 SP1, 1 SP2 */
+    uint8_t teachpoint; /* 0 TP1, 1 TP2 */
+    uint8_t count;
+    uint8_t flags;      /* in bits 4 to 7 */
+    uint8_t taught;     /* 1 SP1, 2 SP2 */
+    bool failed;
+    value lowest;
+    value highest;
+    value points[2];
+};
+
+struct sensor {
+    bool set_up;
+    bool keypad;
+    uint8_t channels;
+    uint8_t scale;
+    uint8_t selected; /* counted from 1 */
+    uint8_t capture;
+    uint16_t spread;
+    uint16_t distance;
+    uint32_t serial;
+    value low;
+    value high;
+    struct teach teach;
+    struct row rows[8];
+};
+
+/* Set-up. */
+
+static inline struct reply set_up(struct sensor *s, const struct setup *setup)
 {
-    (void)log_length;
-    switch (kind) {
-    case 0: trace_int16(rows, n, log); break;
-    case 1: trace_int32(rows, n, log); break;
-    default: trace_float32(rows, n, log); break;
+    value low, high;
+    if (s->set_up && s->keypad)
+        return denied(SETUP_UNDER_KEYPAD);
+    if (setup->channels < 1 || setup->channels > 8)
+        return denied(CHANNEL_COUNT);
+    if (!read_value(setup->low, setup->low_length, &low) || !read_value(setup->high, setup->high_length, &high))
+        return denied(NO_VALUE);
+    if (low >= high || low < LOWEST_END || high > HIGHEST_END)
+        return denied(RANGE);
+    if (setup->capture < 1 || setup->capture > 64)
+        return denied(CAPTURE_LENGTH);
+    memset(s, 0, sizeof *s);
+    s->set_up = true;
+    s->channels = setup->channels;
+    s->scale = (uint8_t)setup->scale;
+    s->selected = 1;
+    s->capture = setup->capture;
+    s->spread = setup->spread;
+    s->distance = setup->distance;
+    s->serial = setup->serial;
+    s->low = low;
+    s->high = high;
+    for (int i = 0; i < 8; i++) {
+        s->rows[i].mode = 1;
+        s->rows[i].sp1 = low;
+        s->rows[i].sp2 = high;
+    }
+    return done(0);
+}
+
+/* Teach. */
+
+static inline void store_setpoint(struct sensor *s, value v)
+{
+    struct row *row = &s->rows[s->selected - 1];
+    if (s->teach.setpoint == 0)
+        row->sp1 = v;
+    else
+        row->sp2 = v;
+    s->teach.taught |= (uint8_t)(1 << s->teach.setpoint);
+    s->teach.failed = false;
+}
+
+static inline enum denial command(struct sensor *s, uint8_t code)
+{
+    struct teach *t = &s->teach;
+    struct command command = commands[code & 0x0f];
+    if (code >> 4 != 4 || command.step == NO_COMMAND)
+        return UNKNOWN_COMMAND;
+    switch (t->state) {
+    case IDLE:
+        switch (command.step) {
+        case SINGLE: t->state = BUSY_SINGLE; break;
+        case POINT: t->state = BUSY_TWO; break;
+        case START: t->state = DYN_START; break;
+        default: return NOT_IN_STATE;
+        }
+        t->setpoint = command.setpoint;
+        t->teachpoint = command.teachpoint;
+        t->count = 0;
+        t->flags &= (uint8_t)~flags_of(command.setpoint);
+        t->failed = false;
+        return DONE;
+    case WAIT_TWO:
+        if (command.step == POINT && command.setpoint == t->setpoint) {
+            t->state = BUSY_TWO;
+            t->teachpoint = command.teachpoint;
+            t->count = 0;
+            return DONE;
+        }
+        if (command.step == APPLY && (t->flags & flags_of(t->setpoint)) == flags_of(t->setpoint)) {
+            value a = t->points[0], b = t->points[1];
+            value lower = a <= b ? a : b, higher = a <= b ? b : a;
+            t->state = IDLE;
+            if (higher < raised(lower, s->distance))
+                t->failed = true;
+            else
+                store_setpoint(s, middle_of(a, b));
+            return DONE;
+        }
+        break;
+    case WAIT_DYN:
+        if (command.step == START && command.setpoint == t->setpoint) {
+            t->state = DYN_START;
+            return DONE;
+        }
+        if (command.step == STOP && command.setpoint == t->setpoint) {
+            t->state = IDLE;
+            if (t->highest < raised(t->lowest, s->distance))
+                t->failed = true;
+            else
+                store_setpoint(s, middle_of(t->lowest, t->highest));
+            return DONE;
+        }
+        break;
+    default:
+        return NOT_IN_STATE;
+    }
+    if (command.step != CANCEL)
+        return NOT_IN_STATE;
+    t->flags &= (uint8_t)~flags_of(t->setpoint);
+    t->failed = false;
+    t->state = IDLE;
+    return DONE;
+}
+
+static inline void widen(struct teach *t, value v)
+{
+    if (v < t->lowest)
+        t->lowest = v;
+    if (v > t->highest)
+        t->highest = v;
+}
+
+static inline void feed(struct sensor *s, value v)
+{
+    struct teach *t = &s->teach;
+    switch (t->state) {
+    case BUSY_SINGLE:
+    case BUSY_TWO:
+        if (t->count == 0)
+            t->lowest = t->highest = v;
+        else
+            widen(t, v);
+        if (++t->count < s->capture)
+            return;
+        if (t->state == BUSY_TWO) {
+            t->points[t->teachpoint] = middle_of(t->lowest, t->highest);
+            t->flags |= (uint8_t)(0x10 << (2 * t->setpoint + t->teachpoint));
+            t->state = WAIT_TWO;
+            return;
+        }
+        t->state = IDLE;
+        if (t->highest > raised(t->lowest, s->spread))
+            t->failed = true;
+        else
+            store_setpoint(s, middle_of(t->lowest, t->highest));
+        return;
+    case DYN_START:
+        t->lowest = t->highest = v;
+        t->state = WAIT_DYN;
+        return;
+    case WAIT_DYN:
+        widen(t, v);
+        return;
+    default:
+        return;
     }
 }
 
-uint32_t hand_c_run(uint32_t kind, const uint8_t *first, size_t first_length, const uint8_t *rows, size_t n,
-                    uint32_t times)
+static inline uint8_t teach_result(const struct teach *t)
 {
-    switch (kind) {
-    case 0: return run_int16(first, first_length, rows, n, times);
-    case 1: return run_int32(first, first_length, rows, n, times);
-    default: return run_float32(first, first_length, rows, n, times);
+    static const uint8_t shown[] = { [BUSY_SINGLE] = 5, [BUSY_TWO] = 5, [WAIT_TWO] = 4, [DYN_START] = 5, [WAIT_DYN] = 4 };
+    uint8_t state = t->state != IDLE ? shown[t->state] : t->failed ? 7 : t->taught;
+    return state | t->flags;
+}
+
+/* Samples. */
+
+static inline void judge(struct row *row, value v)
+{
+    value lo = row->sp1 <= row->sp2 ? row->sp1 : row->sp2;
+    value hi = row->sp1 <= row->sp2 ? row->sp2 : row->sp1;
+    switch (row->mode) {
+    case 0:
+        row->active = false;
+        break;
+    case 1:
+        if (v >= row->sp1)
+            row->active = true;
+        else if (v < lowered(row->sp1, row->hysteresis))
+            row->active = false;
+        break;
+    case 2:
+        if (lo <= v && v <= hi)
+            row->active = true;
+        else if (v < lowered(lo, row->hysteresis) || v > raised(hi, row->hysteresis))
+            row->active = false;
+        break;
+    default:
+        if (v >= hi)
+            row->active = true;
+        else if (v <= lo)
+            row->active = false;
+        break;
     }
 }
 
-size_t hand_c_size(uint32_t kind)
+static inline struct reply sample(struct sensor *s, enum reading reading, const uint8_t *octets, size_t n,
+                                     uint8_t *out, size_t room)
 {
-    switch (kind) {
-    case 0: return sizeof(struct sensor_int16);
-    case 1: return sizeof(struct sensor_int32);
-    default: return sizeof(struct sensor_float32);
+    value v = 0;
+    if (!s->set_up)
+        return denied(BLANK);
+    if (reading == VALUE && !read_value(octets, n, &v))
+        return denied(NO_VALUE);
+    if (room < WIDTH + 2)
+        return denied(BUFFER_TOO_SHORT);
+    if (reading == VALUE) {
+        if (v < s->low)
+            reading = BELOW;
+        else if (v > s->high)
+            reading = ABOVE;
     }
+    uint8_t signals = 0;
+    for (uint8_t i = 0; i < s->channels; i++) {
+        struct row *row = &s->rows[i];
+        if (reading == VALUE)
+            judge(row, v);
+        if (row->mode != 0 && row->active != row->logic)
+            signals |= (uint8_t)(1 << i);
+    }
+    if (reading == VALUE) {
+        feed(s, v);
+        write_value(v, out);
+    } else {
+        memcpy(out, substitutes[reading - BELOW], WIDTH);
+    }
+    out[WIDTH] = s->scale;
+    out[WIDTH + 1] = signals;
+    return done(WIDTH + 2);
+}
+
+/* Requests. */
+
+static inline enum denial check_setpoint(const struct sensor *s, const uint8_t *octets, value *v)
+{
+    if (!read_value(octets, WIDTH, v))
+        return NO_VALUE;
+    if (*v > s->high)
+        return ABOVE_RANGE;
+    if (*v < s->low)
+        return BELOW_RANGE;
+    return DONE;
+}
+
+/* Writes setpoints. A denial comes with the subindex of the part that failed. */
+static inline enum denial write_setpoints(struct sensor *s, struct row *row, const struct request *request,
+                                             uint8_t *subindex)
+{
+    value first, second;
+    enum denial denial = check_setpoint(s, request->data, &first);
+    switch (request->subindex) {
+    case 0:
+        *subindex = 1;
+        if (denial != DONE)
+            return denial;
+        *subindex = 2;
+        denial = check_setpoint(s, request->data + WIDTH, &second);
+        if (denial != DONE)
+            return denial;
+        row->sp1 = first;
+        row->sp2 = second;
+        return DONE;
+    case 1:
+        if (denial == DONE)
+            row->sp1 = first;
+        return denial;
+    default:
+        if (denial == DONE)
+            row->sp2 = first;
+        return denial;
+    }
+}
+
+static inline enum denial write_configuration(struct row *row, const struct request *request, uint8_t *subindex)
+{
+    const uint8_t *data = request->data;
+    switch (request->subindex) {
+    case 0:
+        if (data[0] > 1) {
+            *subindex = 1;
+            return NO_VALUE;
+        }
+        if (data[1] > 3) {
+            *subindex = 2;
+            return NO_VALUE;
+        }
+        row->logic = data[0];
+        row->mode = data[1];
+        row->hysteresis = load16(data + 2);
+        return DONE;
+    case 1:
+        if (data[0] > 1)
+            return NO_VALUE;
+        row->logic = data[0];
+        return DONE;
+    case 2:
+        if (data[0] > 3)
+            return NO_VALUE;
+        row->mode = data[0];
+        return DONE;
+    default:
+        row->hysteresis = load16(data);
+        return DONE;
+    }
+}
+
+static inline enum denial select_channel(struct sensor *s, uint8_t channel)
+{
+    if (channel > s->channels)
+        return NO_VALUE;
+    s->selected = channel == 0 ? 1 : channel;
+    memset(&s->teach, 0, sizeof s->teach);
+    return DONE;
+}
+
+static inline struct reply perform_write(struct sensor *s, const struct request *request, struct target target,
+                                            uint8_t *out)
+{
+    uint8_t subindex = request->subindex;
+    enum denial denial;
+    switch (target.object) {
+    case SYSTEM_COMMAND: denial = command(s, request->data[0]); break;
+    case TEACH_SELECT: denial = select_channel(s, request->data[0]); break;
+    case SETPOINTS: denial = write_setpoints(s, &s->rows[target.row], request, &subindex); break;
+    default: denial = write_configuration(&s->rows[target.row], request, &subindex); break;
+    }
+    return denial == DONE ? confirm_write(out) : refuse(request, denial, subindex, out);
+}
+
+static inline size_t read_setpoints(const struct row *row, uint8_t subindex, uint8_t *out)
+{
+    switch (subindex) {
+    case 0:
+        write_value(row->sp1, out);
+        write_value(row->sp2, out + WIDTH);
+        return 2 * WIDTH;
+    case 1: write_value(row->sp1, out); return WIDTH;
+    default: write_value(row->sp2, out); return WIDTH;
+    }
+}
+
+static inline size_t read_configuration(const struct row *row, uint8_t subindex, uint8_t *out)
+{
+    switch (subindex) {
+    case 0:
+        out[0] = row->logic;
+        out[1] = row->mode;
+        store16(out + 2, row->hysteresis);
+        return 4;
+    case 1: out[0] = row->logic; return 1;
+    case 2: out[0] = row->mode; return 1;
+    default: store16(out, row->hysteresis); return 2;
+    }
+}
+
+static inline struct reply perform_read(const struct sensor *s, uint8_t subindex, struct target target, uint8_t *out)
+{
+    size_t n = 1;
+    switch (target.object) {
+    case TEACH_SELECT: out[1] = s->selected; break;
+    case TEACH_RESULT: out[1] = teach_result(&s->teach); break;
+    case SETPOINTS: n = read_setpoints(&s->rows[target.row], subindex, out + 1); break;
+    default: n = read_configuration(&s->rows[target.row], subindex, out + 1); break;
+    }
+    return confirm_read(out, n);
+}
+
+static inline struct reply request(struct sensor *s, const uint8_t *frame, size_t n, uint8_t *out, size_t room)
+{
+    struct request request;
+    struct target target;
+    if (!s->set_up)
+        return denied(BLANK);
+    if (room < 16)
+        return denied(RESPONSE_BUFFER);
+    enum denial denial = decode(frame, n, &request);
+    if (denial != DONE)
+        return denied(denial);
+    if (!find_object(request.index, s->channels, &target))
+        return refuse(&request, NO_INDEX, request.subindex, out);
+    denial = check_access(&request, target.object, WIDTH, s->keypad);
+    if (denial != DONE)
+        return refuse(&request, denial, request.subindex, out);
+    if (request.write)
+        return perform_write(s, &request, target, out);
+    return perform_read(s, request.subindex, target, out);
+}
+
+/* The calls of the rows. The next three are never inlined, so that what a call takes can be counted by their names. */
+
+__attribute__((noipa)) struct reply timed_set_up(struct sensor *s, const struct setup *setup)
+{
+    return set_up(s, setup);
+}
+
+__attribute__((noipa)) struct reply timed_sample(struct sensor *s, enum reading reading, const uint8_t *octets,
+                                                    size_t n, uint8_t *out, size_t room)
+{
+    return sample(s, reading, octets, n, out, room);
+}
+
+__attribute__((noipa)) struct reply timed_request(struct sensor *s, const uint8_t *frame, size_t n, uint8_t *out,
+                                                     size_t room)
+{
+    return request(s, frame, n, out, room);
+}
+
+static struct reply perform_row(struct sensor *s, const uint8_t *row, uint8_t *out)
+{
+    const uint8_t *octets = row + 3;
+    size_t room = row[2] < 64 ? row[2] : 64;
+    switch (row[0]) {
+    case 1: {
+        struct setup setup = {
+            .low = octets + 12,
+            .low_length = octets[11],
+            .high = octets + 12 + octets[11],
+            .high_length = (size_t)row[1] - 12 - octets[11],
+            .serial = load32(octets),
+            .channels = octets[4],
+            .scale = (int8_t)octets[5],
+            .capture = octets[6],
+            .spread = load16(octets + 7),
+            .distance = load16(octets + 9),
+        };
+        return timed_set_up(s, &setup);
+    }
+    case 2: case 3: case 4: case 5:
+        return timed_sample(s, row[0] - 2, octets, row[1], out, room);
+    case 6:
+        return timed_request(s, octets, row[1], out, room);
+    default:
+        return done(0);
+    }
+}
+
+static uint32_t make(struct sensor *s, const uint8_t *rows, size_t n)
+{
+    uint32_t sum = 0;
+    uint8_t out[64] = { 0 };
+    for (size_t i = 0; i + 64 <= n; i += 64) {
+        struct reply reply = perform_row(s, rows + i, out);
+        sum = sum * 31 + reply.denial + (reply.denial == 0 ? (uint8_t)reply.length : reply.subindex) + out[3];
+    }
+    return sum;
+}
+
+uint32_t hand_c_run(const uint8_t *first, size_t first_length, const uint8_t *rows, size_t n, uint32_t times)
+{
+    struct sensor sensor = { 0 };
+    uint32_t sum = make(&sensor, first, first_length);
+    for (uint32_t i = 0; i < times; i++)
+        sum = sum * 31 + make(&sensor, rows, n);
+    return sum;
+}
+
+void hand_c_trace(const uint8_t *rows, size_t n, uint8_t *log, size_t log_length)
+{
+    struct sensor sensor = { 0 };
+    for (size_t i = 0; i + 64 <= n && log_length >= 68; i += 64, log += 68, log_length -= 68) {
+        memset(log + 4, 0xaa, 64);
+        struct reply reply = perform_row(&sensor, rows + i, log + 4);
+        log[0] = reply.denial;
+        log[1] = reply.denial == 0 ? (uint8_t)reply.length : reply.subindex;
+        store16(log + 2, reply.index);
+    }
+}
+
+size_t hand_c_size(void)
+{
+    return sizeof(struct sensor);
 }

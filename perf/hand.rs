@@ -1,6 +1,13 @@
 // The same rules by hand in Rust: docs/RULES.md. Written once over the kinds.
 #![crate_type = "staticlib"]
 
+#[cfg(kind = "0")]
+type Measured = i16;
+#[cfg(kind = "1")]
+type Measured = i32;
+#[cfg(kind = "2")]
+type Measured = f32;
+
 #[derive(Clone, Copy, PartialEq, Eq)]
 #[repr(u8)]
 enum Denial {
@@ -910,7 +917,6 @@ fn trace<V: Kind>(rows: &[u8], log: &mut [u8]) {
 /// The pointers are to as many octets as the lengths say.
 #[unsafe(no_mangle)]
 pub unsafe extern "C" fn hand_rust_run(
-    kind: u32,
     first: *const u8,
     first_length: usize,
     rows: *const u8,
@@ -919,31 +925,19 @@ pub unsafe extern "C" fn hand_rust_run(
 ) -> u32 {
     let first = unsafe { std::slice::from_raw_parts(first, first_length) };
     let rows = unsafe { std::slice::from_raw_parts(rows, n) };
-    match kind {
-        0 => run::<i16>(first, rows, times),
-        1 => run::<i32>(first, rows, times),
-        _ => run::<f32>(first, rows, times),
-    }
+    run::<Measured>(first, rows, times)
 }
 
 /// # Safety
 /// The pointers are to as many octets as the lengths say.
 #[unsafe(no_mangle)]
-pub unsafe extern "C" fn hand_rust_trace(kind: u32, rows: *const u8, n: usize, log: *mut u8, log_length: usize) {
+pub unsafe extern "C" fn hand_rust_trace(rows: *const u8, n: usize, log: *mut u8, log_length: usize) {
     let rows = unsafe { std::slice::from_raw_parts(rows, n) };
     let log = unsafe { std::slice::from_raw_parts_mut(log, log_length) };
-    match kind {
-        0 => trace::<i16>(rows, log),
-        1 => trace::<i32>(rows, log),
-        _ => trace::<f32>(rows, log),
-    }
+    trace::<Measured>(rows, log)
 }
 
 #[unsafe(no_mangle)]
-pub extern "C" fn hand_rust_size(kind: u32) -> usize {
-    match kind {
-        0 => size_of::<Sensor<i16>>(),
-        1 => size_of::<Sensor<i32>>(),
-        _ => size_of::<Sensor<f32>>(),
-    }
+pub extern "C" fn hand_rust_size() -> usize {
+    size_of::<Sensor<Measured>>()
 }

@@ -5,9 +5,9 @@
 #include <string.h>
 #include <time.h>
 
-typedef uint32_t run_calls(uint32_t, const uint8_t *, size_t, const uint8_t *, size_t, uint32_t);
-typedef void trace_calls(uint32_t, const uint8_t *, size_t, uint8_t *, size_t);
-typedef size_t size_of(uint32_t);
+typedef uint32_t run_calls(const uint8_t *, size_t, const uint8_t *, size_t, uint32_t);
+typedef void trace_calls(const uint8_t *, size_t, uint8_t *, size_t);
+typedef size_t size_of(void);
 
 run_calls core_run, hand_c_run, hand_rust_run;
 trace_calls core_trace, hand_c_trace, hand_rust_trace;
@@ -54,27 +54,26 @@ static double now(void)
     return (double)t.tv_sec * 1e9 + (double)t.tv_nsec;
 }
 
-/* bench MAKER size KIND | bench MAKER trace KIND ROWS | bench MAKER run KIND FIRST ROWS TIMES */
+/* bench MAKER size | bench MAKER trace ROWS | bench MAKER run FIRST ROWS TIMES */
 int main(int argc, char **argv)
 {
     size_t m = 0;
-    while (argc > 3 && m < 3 && strcmp(argv[1], makers[m].name) != 0)
+    while (argc > 2 && m < 3 && strcmp(argv[1], makers[m].name) != 0)
         m++;
-    if (argc < 4 || m == 3)
+    if (argc < 3 || m == 3)
         return 2;
-    uint32_t kind = (uint32_t)atoi(argv[3]);
     if (strcmp(argv[2], "size") == 0) {
-        printf("%zu\n", makers[m].size(kind));
-    } else if (strcmp(argv[2], "trace") == 0 && argc == 5) {
-        struct octets rows = load(argv[4]);
+        printf("%zu\n", makers[m].size());
+    } else if (strcmp(argv[2], "trace") == 0 && argc == 4) {
+        struct octets rows = load(argv[3]);
         struct octets log = { .length = rows.length / 64 * 68 };
         log.at = calloc(log.length + 1, 1);
-        makers[m].trace(kind, rows.at, rows.length, log.at, log.length);
+        makers[m].trace(rows.at, rows.length, log.at, log.length);
         fwrite(log.at, 1, log.length, stdout);
-    } else if (strcmp(argv[2], "run") == 0 && argc == 7) {
-        struct octets first = load(argv[4]), rows = load(argv[5]);
+    } else if (strcmp(argv[2], "run") == 0 && argc == 6) {
+        struct octets first = load(argv[3]), rows = load(argv[4]);
         double start = now();
-        uint32_t sum = makers[m].run(kind, first.at, first.length, rows.at, rows.length, (uint32_t)atoi(argv[6]));
+        uint32_t sum = makers[m].run(first.at, first.length, rows.at, rows.length, (uint32_t)atoi(argv[5]));
         printf("%u %.0f\n", sum, now() - start);
     } else {
         return 2;

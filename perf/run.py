@@ -18,9 +18,10 @@ from pathlib import Path
 TOP = Path(__file__).resolve().parent.parent
 PERF = TOP / "perf"
 CRATES = ["octets", "numbers", "faults", "isdu", "kinds", "channels", "teach", "objects", "sensor"]
-EXPORTS = "perf_core staticlib: octets faults kinds channels teach sensor"
+EXPORTS = "perf_{} staticlib: octets faults kinds channels teach sensor"
 CPU = "x86-64-v2"  # what rt builds for
 KINDS = ["IntegerT16", "IntegerT32", "Float32T"]
+MODULES = ["integer_t16", "integer_t32", "float32_t"]
 MAKERS = ["core", "c", "rust"]
 SETUP, SAMPLE, BELOW, ABOVE, NO_DATA, REQUEST = range(1, 7)
 
@@ -32,10 +33,10 @@ def told(command, **more):
     return done
 
 
-# The three are built into one program.
+# For each kind the three are built into one program.
 
 
-def build_core(work):
+def copy_crates(work):
     for name in CRATES:
         target = work / "crates" / name
         for part in ("src", "specs", "proofs"):
@@ -44,22 +45,29 @@ def build_core(work):
                 shutil.copytree(TOP / "crates" / name / part, target / part)
     lines = (TOP / "crates.txt").read_text().splitlines()
     kept = [line for line in lines if line.split(":")[0] in CRATES]
-    (work / "crates.txt").write_text("\n".join(kept + [EXPORTS]) + "\n")
-    source = work / "crates" / "perf_core" / "src"
-    source.mkdir(parents=True, exist_ok=True)
-    shutil.copy(PERF / "core" / "lib.rt.txt", source / "lib.rt")
-    told(["rt", "lib"], cwd=source.parent)
-    return source.parent / "out" / "libperf_core.a"
+    (work / "crates.txt").write_text("\n".join(kept + [EXPORTS.format(module) for module in MODULES]) + "\n")
+    text = (PERF / "core" / "lib.rt.txt").read_text()
+    for kind, module in zip(KINDS, MODULES):
+        source = work / "crates" / f"perf_{module}" / "src"
+        source.mkdir(parents=True, exist_ok=True)
+        (source / "lib.rt").write_text(text.replace("integer_t16::IntegerT16", f"{module}::{kind}"))
 
 
-def build(work):
-    core = build_core(work)
-    by_hand, rust, main, bench = (work / name for name in ("hand.o", "libhand.a", "main.o", "bench"))
+def build_core(work, kind):
+    """The archive of the exporting crate of one kind."""
+    name = f"perf_{MODULES[kind]}"
+    told(["rt", "lib"], cwd=work / "crates" / name)
+    return work / "crates" / name / "out" / f"lib{name}.a"
+
+
+def build(work, kind):
+    core = build_core(work, kind)
+    by_hand, rust, main, bench = (work / name for name in (f"hand{kind}.o", f"libhand{kind}.a", "main.o", f"bench{kind}"))
     gcc = ["gcc", "-std=gnu11", "-O3", f"-march={CPU}", "-ffp-contract=off", "-Wall", "-Wextra", "-c"]
-    told(gcc + [PERF / "hand.c", "-o", by_hand])
+    told(gcc + [f"-DKIND={kind}", PERF / "hand.c", "-o", by_hand])
     told(gcc + [PERF / "main.c", "-o", main])
     told(["rustc", "--edition=2024", "-Copt-level=3", "-Ccodegen-units=1", "-Cpanic=abort", f"-Ctarget-cpu={CPU}",
-          PERF / "hand.rs", "-o", rust])
+          "--cfg", f'kind="{kind}"', PERF / "hand.rs", "-o", rust])
     told(["gcc", main, by_hand, core, rust, "-lpthread", "-ldl", "-lm", "-o", bench])
     return bench
 
@@ -237,14 +245,14 @@ def any_calls(random, kind, count):
     return rows
 
 
-def compare(bench, work):
+def compare(benches, work):
     """Makes the same calls on all three, and stops at the first that differs."""
     seeded = random.Random(1)
     runs = list(sessions()) + [(kind, any_calls(seeded, kind, 30_000)) for kind in range(3)]
     calls = accepted = 0
     for kind, rows in runs:
         (work / "rows").write_bytes(rows)
-        logs = [told([bench, maker, "trace", kind, work / "rows"]).stdout for maker in MAKERS]
+        logs = [told([benches[kind], maker, "trace", work / "rows"]).stdout for maker in MAKERS]
         for at in range(0, len(logs[0]), 68):
             seen = [log[at : at + 68] for log in logs]
             if seen[0] != seen[1] or seen[0] != seen[2]:
@@ -259,22 +267,22 @@ def compare(bench, work):
 # Counts and times.
 
 
-def instructions(bench, maker, kind, first, rows, times):
+def instructions(bench, maker, first, rows, times):
     counted = told(["valgrind", "--tool=callgrind", "--callgrind-out-file=/dev/null", "--toggle-collect=*timed_*",
-                    bench, maker, "run", kind, first, rows, times])
+                    bench, maker, "run", first, rows, times])
     return int(re.search(rb"Collected : (\d+)", counted.stderr).group(1)), counted.stdout.split()[0]
 
 
-def nanoseconds(bench, kind, first, rows, times):
+def nanoseconds(bench, first, rows, times):
     """The least of some runs, one after the other for each of the three."""
     best = dict.fromkeys(MAKERS, float("inf"))
     for _ in range(15):
         for maker in MAKERS:
-            best[maker] = min(best[maker], float(told([bench, maker, "run", kind, first, rows, times]).stdout.split()[1]))
+            best[maker] = min(best[maker], float(told([bench, maker, "run", first, rows, times]).stdout.split()[1]))
     return best
 
 
-def measure(bench, work, kind, name, first, rows, count):
+def measure(bench, work, name, first, rows, count):
     """The instructions and the nanoseconds of each of the three, in one case."""
     first_file, rows_file, empty_file = work / "first", work / "rows", work / "empty"
     first_file.write_bytes(first)
@@ -282,46 +290,47 @@ def measure(bench, work, kind, name, first, rows, count):
     empty_file.write_bytes(row(0) * (len(rows) // 64))
     counts, sums = {}, set()
     for maker in MAKERS:
-        few, _ = instructions(bench, maker, kind, first_file, rows_file, 10)
-        many, total = instructions(bench, maker, kind, first_file, rows_file, 110)
+        few, _ = instructions(bench, maker, first_file, rows_file, 10)
+        many, total = instructions(bench, maker, first_file, rows_file, 110)
         counts[maker] = (many - few) / 100 / count
         sums.add(total)
     if len(sums) != 1:
-        sys.exit(f"{KINDS[kind]}, {name}: the sums differ: {sums}")
+        sys.exit(f"{name}: the sums differ: {sums}")
     times = 200_000 // (len(rows) // 64)
-    whole = nanoseconds(bench, kind, first_file, rows_file, times)
-    empty = nanoseconds(bench, kind, first_file, empty_file, times)
+    whole = nanoseconds(bench, first_file, rows_file, times)
+    empty = nanoseconds(bench, first_file, empty_file, times)
     return counts, {maker: (whole[maker] - empty[maker]) / times / count for maker in MAKERS}
 
 
-def table(bench, work):
+def table(benches, work):
     print("| case | kind | core | C | Rust | core / C | core / Rust | ns core | ns C | ns Rust |")
     print("|---|---|--:|--:|--:|--:|--:|--:|--:|--:|")
     worst = 0
     for lines in zip(*(list(cases(kind)) for kind in range(3))):
         for kind, (name, first, rows, count) in enumerate(lines):
-            n, ns = measure(bench, work, kind, name, first, rows, count)
+            n, ns = measure(benches[kind], work, name, first, rows, count)
             worst = max(worst, n["core"] / n["c"])
             print(f"| {name} | {KINDS[kind]} | {n['core']:.0f} | {n['c']:.0f} | {n['rust']:.0f} | {n['core'] / n['c']:.2f} "
                   f"| {n['core'] / n['rust']:.2f} | {ns['core']:.1f} | {ns['c']:.1f} | {ns['rust']:.1f} |", flush=True)
     print(f"\nHighest ratio of instructions, core to C: {worst:.2f}\n")
 
 
-def sizes(bench):
+def sizes(benches):
     print("| size of a sensor in octets | core | C | Rust |")
     print("|---|--:|--:|--:|")
-    for kind, name in enumerate(KINDS):
-        print(f"| {name} | " + " | ".join(told([bench, maker, "size", kind]).stdout.decode().strip() for maker in MAKERS) + " |")
+    for kind, bench in zip(KINDS, benches):
+        print(f"| {kind} | " + " | ".join(told([bench, maker, "size"]).stdout.decode().strip() for maker in MAKERS) + " |")
 
 
 def main():
     work = Path(sys.argv[1] if len(sys.argv) > 1 else tempfile.mkdtemp(prefix="perf-")).resolve()
     work.mkdir(parents=True, exist_ok=True)
     try:
-        bench = build(work)
-        compare(bench, work)
-        table(bench, work)
-        sizes(bench)
+        copy_crates(work)
+        benches = [build(work, kind) for kind in range(3)]
+        compare(benches, work)
+        table(benches, work)
+        sizes(benches)
     finally:
         if len(sys.argv) == 1:
             shutil.rmtree(work)
