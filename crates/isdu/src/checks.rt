@@ -13,5 +13,8 @@ pub(crate) fn exclusive_or(octets: &[u8]) -> u8
 pub(crate) fn has_check(frame: &[u8]) -> bool
     ensures { result ≡ (exclusive_or frame.now == 0) }
 {
-    exclusive_or(frame) == 0
+    match frame {
+        [before @ .., check] => exclusive_or(before) == *check,
+        [] => true,
+    }
 }
