@@ -60,9 +60,7 @@ impl<K: Kind> Table<K> {
         let n = self.len();
         for (i, row) in self.rows[..n].iter_mut().enumerate() {
             row.judge(reading);
-            if row.signal() {
-                signals += 1 << i;
-            }
+            signals += u8::from(row.signal()) << i;
         }
         signals
     }
