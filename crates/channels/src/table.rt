@@ -80,16 +80,19 @@ impl<K: Kind> Table<K> {
         ensures present { result ≡ has_channel self.now channel }
         ensures eight { length self.now.rows ≡ 8 }
     {
-        let count = self.len();
-        channel >= 1 && usize::from(channel) <= count
+        // As a slice the rows are known to be eight. Compared with both, as the lesser of the two takes longer.
+        let rows = &self.rows[..];
+        channel >= 1 && channel <= self.count && usize::from(channel) <= rows.len()
     }
 
     // The row of a channel, if it is present.
     pub fn row(&self, channel: u8) -> Option<Row<K>>
         ensures { result ≡ row_at self.now channel }
     {
-        let index = usize::from(channel).checked_sub(1)?;
-        self.present().get(index).copied()
+        if !self.has(channel) {
+            return None;
+        }
+        self.rows.get(usize::from(channel) - 1).copied()
     }
 
     // Gives a channel another row; one that is not present stays away. Rows are read and put back, not lent: the clause of a
