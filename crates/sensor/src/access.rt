@@ -78,12 +78,18 @@ impl<K: Kind> Device<K> {
         ensures reply { result ≡ write_reply_of (written K.meaning self.old place object octets.now) }
         ensures device { self.new ≡ device_or self.old (written K.meaning self.old place object octets.now) }
     {
-        match (object, single(octets)) {
-            (Object::SystemCommand, Some(code)) => self.command(code, place),
-            (Object::TeachSelect, Some(channel)) => self.select(channel, place),
-            (Object::Setpoints(channel), _) => self.set_setpoints(channel, place, octets),
-            (Object::Configuration(channel), _) => self.set_configuration(channel, place, octets),
-            _ => Ok(()),
+        match object {
+            Object::SystemCommand => match single(octets) {
+                Some(code) => self.command(code, place),
+                None => Ok(()),
+            },
+            Object::TeachSelect => match single(octets) {
+                Some(channel) => self.select(channel, place),
+                None => Ok(()),
+            },
+            Object::TeachResult => Ok(()),
+            Object::Setpoints(channel) => self.set_setpoints(channel, place, octets),
+            Object::Configuration(channel) => self.set_configuration(channel, place, octets),
         }
     }
 }
