@@ -1,2 +1,3 @@
 mod Packing
 pub mod Blocks
+mod Backward

@@ -58,9 +58,10 @@ impl<K: Kind> Table<K> {
     {
         let mut signals = 0;
         let n = self.len();
-        for (i, row) in self.rows[..n].iter_mut().enumerate() {
+        for i in (0..n).rev() {
+            let row = &mut self.rows[i];
             row.judge(reading);
-            signals += u8::from(row.signal()) << i;
+            signals = 2 * signals + u8::from(row.signal());
         }
         signals
     }
