@@ -28,8 +28,8 @@ same_octets : (a c : ℕ) → (a == c) ≡ (bit_xor a c == 0)
 same_octets a c =
     let back : bit_xor (bit_xor a c) c ≡ a = xor_assoc a c c ∙ ap (λ n. bit_xor a n) (xor_self c) ∙ xor_zero_r a in
     both_ways (a == c) (bit_xor a c == 0)
-      (λ h. eq-eqb (bit_xor a c) 0 (ap (λ n. bit_xor n c) (eqb-true a c h) ∙ xor_self c))
-      (λ h. eq-eqb a c (sym back ∙ ap (λ n. bit_xor n c) (eqb-true (bit_xor a c) 0 h)))
+    (λ h. eq-eqb (bit_xor a c) 0 (ap (λ n. bit_xor n c) (eqb-true a c h) ∙ xor_self c))
+    (λ h. eq-eqb a c (sym back ∙ ap (λ n. bit_xor n c) (eqb-true (bit_xor a c) 0 h)))
 
 -- the last octet is the check octet of those before it exactly where the exclusive-or of all is 0
 pub last_balances : (xs : List ℕ) → 1 ≤ length xs → (exclusive_or (before_check xs) == get_or xs (length xs - 1) 0) ≡ (exclusive_or xs == 0)
