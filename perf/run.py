@@ -13,6 +13,7 @@ import struct
 import subprocess
 import sys
 import tempfile
+from concurrent.futures import ThreadPoolExecutor
 from pathlib import Path
 
 TOP = Path(__file__).resolve().parent.parent
@@ -261,58 +262,64 @@ def compare(benches, work):
                 sys.exit(f"{KINDS[kind]}: call {at // 68} differs: {call.hex(' ')}\n{shown}")
             calls += 1
             accepted += seen[0][0] == 0
-    print(f"{calls} calls, {accepted} of them accepted: all three gave the same replies and buffers.\n")
+    print(f"{calls} calls, {accepted} of them accepted: all three gave the same replies and buffers.\n", flush=True)
 
 
 # Counts and times.
 
 
-def instructions(bench, maker, first, rows, times):
-    counted = told(["valgrind", "--tool=callgrind", "--callgrind-out-file=/dev/null", "--toggle-collect=*timed_*",
-                    bench, maker, "run", first, rows, times])
-    return int(re.search(rb"Collected : (\d+)", counted.stderr).group(1)), counted.stdout.split()[0]
+class Case:
+    """One case of one kind, with the files of its rows."""
 
+    def __init__(self, bench, work, kind, number, name, first, rows, count):
+        self.bench, self.kind, self.name, self.count = bench, KINDS[kind], name, count
+        self.calls = len(rows) // 64
+        self.first, self.rows, self.empty = (work / f"{part}{kind}-{number}" for part in ("first", "rows", "empty"))
+        self.first.write_bytes(first)
+        self.rows.write_bytes(rows)
+        self.empty.write_bytes(row(0) * self.calls)
 
-def nanoseconds(bench, first, rows, times):
-    """The least of some runs, one after the other for each of the three."""
-    best = dict.fromkeys(MAKERS, float("inf"))
-    for _ in range(15):
+    def collected(self, maker, times):
+        """The instructions of all calls, and the sum of what they gave."""
+        done = told(["valgrind", "--tool=callgrind", "--callgrind-out-file=/dev/null", "--toggle-collect=*timed_*",
+                     self.bench, maker, "run", self.first, self.rows, times])
+        return int(re.search(rb"Collected : (\d+)", done.stderr).group(1)), done.stdout.split()[0]
+
+    def instructions(self):
+        counts, sums = {}, set()
         for maker in MAKERS:
-            best[maker] = min(best[maker], float(told([bench, maker, "run", first, rows, times]).stdout.split()[1]))
-    return best
+            few, _ = self.collected(maker, 10)
+            many, total = self.collected(maker, 110)
+            counts[maker] = (many - few) / 100 / self.count
+            sums.add(total)
+        if len(sums) != 1:
+            sys.exit(f"{self.kind}, {self.name}: the sums differ: {sums}")
+        return counts
 
-
-def measure(bench, work, name, first, rows, count):
-    """The instructions and the nanoseconds of each of the three, in one case."""
-    first_file, rows_file, empty_file = work / "first", work / "rows", work / "empty"
-    first_file.write_bytes(first)
-    rows_file.write_bytes(rows)
-    empty_file.write_bytes(row(0) * (len(rows) // 64))
-    counts, sums = {}, set()
-    for maker in MAKERS:
-        few, _ = instructions(bench, maker, first_file, rows_file, 10)
-        many, total = instructions(bench, maker, first_file, rows_file, 110)
-        counts[maker] = (many - few) / 100 / count
-        sums.add(total)
-    if len(sums) != 1:
-        sys.exit(f"{name}: the sums differ: {sums}")
-    times = 200_000 // (len(rows) // 64)
-    whole = nanoseconds(bench, first_file, rows_file, times)
-    empty = nanoseconds(bench, first_file, empty_file, times)
-    return counts, {maker: (whole[maker] - empty[maker]) / times / count for maker in MAKERS}
+    def nanoseconds(self):
+        """The least of some runs, the three in turn, less that of runs with no call in them."""
+        times = 20_000 // self.calls
+        best = {}
+        for _ in range(20):
+            for maker in MAKERS:
+                for rows in (self.rows, self.empty):
+                    took = float(told([self.bench, maker, "run", self.first, rows, times]).stdout.split()[1])
+                    best[maker, rows] = min(best.get((maker, rows), took), took)
+        return {maker: (best[maker, self.rows] - best[maker, self.empty]) / times / self.count for maker in MAKERS}
 
 
 def table(benches, work):
+    by_kind = [[Case(benches[kind], work, kind, number, *case) for number, case in enumerate(cases(kind))] for kind in range(3)]
+    all_cases = [case for alike in zip(*by_kind) for case in alike]
+    with ThreadPoolExecutor(6) as pool:
+        counts = list(pool.map(Case.instructions, all_cases))
     print("| case | kind | core | C | Rust | core / C | core / Rust | ns core | ns C | ns Rust |")
     print("|---|---|--:|--:|--:|--:|--:|--:|--:|--:|")
-    worst = 0
-    for lines in zip(*(list(cases(kind)) for kind in range(3))):
-        for kind, (name, first, rows, count) in enumerate(lines):
-            n, ns = measure(benches[kind], work, name, first, rows, count)
-            worst = max(worst, n["core"] / n["c"])
-            print(f"| {name} | {KINDS[kind]} | {n['core']:.0f} | {n['c']:.0f} | {n['rust']:.0f} | {n['core'] / n['c']:.2f} "
-                  f"| {n['core'] / n['rust']:.2f} | {ns['core']:.1f} | {ns['c']:.1f} | {ns['rust']:.1f} |", flush=True)
-    print(f"\nHighest ratio of instructions, core to C: {worst:.2f}\n")
+    for case, n in zip(all_cases, counts):
+        ns = case.nanoseconds()
+        print(f"| {case.name} | {case.kind} | {n['core']:.0f} | {n['c']:.0f} | {n['rust']:.0f} | {n['core'] / n['c']:.2f} "
+              f"| {n['core'] / n['rust']:.2f} | {ns['core']:.1f} | {ns['c']:.1f} | {ns['rust']:.1f} |", flush=True)
+    print(f"\nHighest ratio of instructions, core to C: {max(n['core'] / n['c'] for n in counts):.2f}\n")
 
 
 def sizes(benches):
