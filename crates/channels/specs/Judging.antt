@@ -43,7 +43,7 @@ module _ {V : Type 0} (m : Meaning V) where
 
   -- a value judges a row by its settings, which stay; Below, Above and NoData hold the state
   abbrev pub judged : Reading V → Row V → Row V
-  judged (Value v) r = record { sp1 = r.sp1; sp2 = r.sp2; hysteresis = r.hysteresis; logic = r.logic; mode = r.mode; active = state_after v r }
+  judged (Value v) r = record r { active = state_after v r }
   judged Below r = r
   judged Above r = r
   judged NoData r = r

@@ -39,7 +39,7 @@ module _ {V : Type 0} where
 
   -- a row at rest: its settings stay, its state is inactive
   abbrev pub rested : Row V → Row V
-  rested r = record { sp1 = r.sp1; sp2 = r.sp2; hysteresis = r.hysteresis; logic = r.logic; mode = r.mode; active = false }
+  rested r = record r { active = false }
 
   -- every channel is at rest
   abbrev pub rested_table : Table V → Table V
