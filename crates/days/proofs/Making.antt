@@ -1,5 +1,5 @@
 -- What a call answered, as a reply.
-use Rattle.std.proofs.Common.{◌≡◌, ℕ, Bool, true, false, cond, not, List, [], ◌++◌, length, take, Some, None, Ok, Err, Option, Result, refl, sym, ap, ◌∙◌}
+use Rattle.std.proofs.Common.{◌≡◌, ℕ, Bool, true, false, cond, not, List, [], ◌++◌, length, take, drop, Some, None, Ok, Err, Option, Result, refl, sym, ap, ◌∙◌}
 use lib.Seq.{take-append_seam}
 use Rattle.std.specs.Borrow.{Bor}
 use Rattle.faults.specs.declared.Fault.{Fault}
@@ -26,6 +26,10 @@ use Rattle.days.specs.Told.{lent_octets, lent_setup_octets}
 -- what a lent buffer of a vector leaves in it
 pub back : (new rest : List ℕ) (long : ℕ) → length new ≡ long → take long (new ++ rest) ≡ new
 back new rest long e = ap (λ n. take n (new ++ rest)) (sym e) ∙ take-append_seam new rest
+
+-- the same of a call that writes to what it is lent
+pub left_in : (write : List ℕ → List ℕ) (new lent held : List ℕ) (long : ℕ) → new ≡ write lent → lent ≡ held → length new ≡ length lent → length lent ≡ long → take long (new ++ drop (length new) held) ≡ write held
+left_in write new lent held long w e f l = back new (drop (length new) held) long (f ∙ l) ∙ w ∙ ap write e
 
 module _ (x buffer : List ℕ) (r : Result ℕ Fault) where
   pub written_ok : (n : ℕ) → Ok n ≡ r → x ≡ take n buffer → accepted x ≡ written r buffer

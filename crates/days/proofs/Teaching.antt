@@ -36,10 +36,6 @@ module _ {V : Type 0} (m : Meaning V) (t : Terms) where
   taken_is [] v = refl
   taken_is (w ∷ ws) v = λ i. record { span = span_of_all m v (w ∷ ws); count = add-one (length (w ∷ ws)) i }
 
-  points_with : (p : Teachpoints (Option (Values V))) (tp : Teachpoint) (v : V) (vs : List V) → with_teachpoint (points_of m p) tp (Some (m.middle (lowest m v vs) (highest m v vs))) ≡ points_of m (with_teachpoint p tp (Some (values v vs)))
-  points_with p Tp1 v vs = refl
-  points_with p Tp2 v vs = refl
-
   single_is : (sp : Setpoint) (v : V) (vs : List V) → machine.single_fed m t sp (band m v vs) ≡ moved_of m (fed m t (busy_single sp vs) v)
   single_is sp v vs =
       through (moved_of m) (full m t (v ∷ vs)) (ends (evaluate_single m t sp (lowest m v vs) (highest m v vs))) (goes (busy_single sp (v ∷ vs)) Keep)

@@ -1,4 +1,8 @@
 // The calls of a day, and what they answer.
+ghost use Rattle.days.specs.Told.{lent_setup_octets, setup_of};
+ghost use Rattle.std.specs.Prelude.{◌≡◌};
+
+use channels::range::Range;
 use channels::reading::Reading;
 use channels::row::Row;
 use faults::Fault;
@@ -42,4 +46,20 @@ pub struct Channel<K> {
 pub struct Entry<K> {
     pub reply: Reply,
     pub channels: Vec<Channel<K>>,
+}
+
+// A set-up with the octets of its range lent. No `From`: both types are of another crate.
+pub fn lent_setup(setup: &Setup<Vec<u8>>) -> Setup<&[u8]>
+    ensures { lent_setup_octets result ≡ setup_of setup.now }
+{
+    Setup {
+        serial: setup.serial,
+        channels: setup.channels,
+        scale: setup.scale,
+        terms: setup.terms,
+        range: Range {
+            low: setup.range.low.as_slice(),
+            high: setup.range.high.as_slice(),
+        },
+    }
 }

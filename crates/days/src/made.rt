@@ -1,14 +1,13 @@
 // Each call, made on the real sensor: what it answers, as the reply of a day.
 ghost use Rattle.days.specs.Days.{set_up};
 ghost use Rattle.days.specs.Made.{line_made, line_told, plain, refusal_in, request_told, sample_made, sample_told};
-ghost use Rattle.days.specs.Told.{lent_octets, lent_setup_octets, octets_of, setup_of, told};
+ghost use Rattle.days.specs.Told.{lent_octets, octets_of, setup_of, told};
 ghost use Rattle.faults.specs.Denials.{entry};
 ghost use Rattle.sensor.specs.Requests.{request_after};
 ghost use Rattle.sensor.specs.Restarts.{restart_after, restart_reply};
 ghost use Rattle.std.specs.Prelude.{◌≡◌, vec_items};
 
-use super::call::Reply;
-use channels::range::Range;
+use super::call::{Reply, lent_setup};
 use channels::reading::Reading;
 use faults::{Denial, Fault};
 use kinds::kind::Kind;
@@ -23,22 +22,6 @@ pub(crate) fn plainly(heap: Global, answer: Result<(), Fault>) -> Reply
     match answer {
         Ok(()) => Reply::Accepted(Vec::new(heap)),
         Err(fault) => Reply::Denied(fault, Vec::new(heap)),
-    }
-}
-
-// A set-up with the octets of its range lent.
-fn lent_setup(setup: &Setup<Vec<u8>>) -> Setup<&[u8]>
-    ensures { lent_setup_octets result ≡ setup_of setup.now }
-{
-    Setup {
-        serial: setup.serial,
-        channels: setup.channels,
-        scale: setup.scale,
-        terms: setup.terms,
-        range: Range {
-            low: setup.range.low.as_slice(),
-            high: setup.range.high.as_slice(),
-        },
     }
 }
 

@@ -9,7 +9,7 @@ use Rattle.teach.specs.declared.command.Step.TheVariants.{Cancel}
 use Rattle.teach.specs.declared.machine.Flags.{Flags}
 use Rattle.teach.specs.declared.machine.Teachpoints.{Teachpoints}
 use Rattle.teach.specs.declared.machine.State.{State}
-use Rattle.teach.specs.declared.machine.State.TheVariants.{Idle, BusySingle, BusyTwo, WaitTwo, DynStart, WaitDyn}
+use Rattle.teach.specs.declared.machine.State.TheVariants.{BusySingle, BusyTwo}
 use Rattle.teach.specs.declared.machine.Verdict.TheVariants.{Open, Stores}
 use Rattle.teach.specs.declared.terms.Terms.{Terms}
 use Rattle.teach.specs.Captures.{taken}

@@ -9,9 +9,9 @@ use Rattle.teach.specs.declared.command.Command.{Command}
 use Rattle.teach.specs.declared.command.Setpoint.{Setpoint}
 use Rattle.teach.specs.declared.command.Setpoint.TheVariants.{Sp1, Sp2}
 use Rattle.teach.specs.declared.machine.State.{State}
-use Rattle.teach.specs.declared.machine.State.TheVariants.{Idle, BusySingle, BusyTwo, WaitTwo, DynStart, WaitDyn}
+use Rattle.teach.specs.declared.machine.State.TheVariants.{Idle, WaitTwo, WaitDyn}
 use Rattle.teach.specs.declared.machine.Change.{Change}
-use Rattle.teach.specs.declared.machine.Change.TheVariants.{Keep, Clear, Set}
+use Rattle.teach.specs.declared.machine.Change.TheVariants.{Clear}
 use Rattle.teach.specs.declared.machine.Verdict.{Verdict}
 use Rattle.teach.specs.declared.machine.Verdict.TheVariants.{Open, Fails, Stores}
 use Rattle.teach.specs.declared.machine.Effect.{Effect}

@@ -2,7 +2,7 @@
 use crate::answers::{Answer, ask};
 use crate::lines::Unreadable;
 use crate::replays::Mismatch;
-use channels::range::Range;
+use days::call::lent_setup;
 use faults::{Denial, Fault};
 use kinds::float32_t::Float32T;
 use kinds::integer_t16::IntegerT16;
@@ -28,20 +28,6 @@ impl FromStr for KindName {
             "float32" => Ok(KindName::Float32),
             _ => Err(Unreadable::Layout),
         }
-    }
-}
-
-// A set-up with the octets of its range lent. No `From`: both types are of another crate.
-fn lent_setup(setup: &Setup<Vec<u8>>) -> Setup<&[u8]> {
-    Setup {
-        serial: setup.serial,
-        channels: setup.channels,
-        scale: setup.scale,
-        terms: setup.terms,
-        range: Range {
-            low: setup.range.low.as_slice(),
-            high: setup.range.high.as_slice(),
-        },
     }
 }
 
