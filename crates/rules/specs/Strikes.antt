@@ -4,7 +4,7 @@ use Rattle.faults.specs.declared.Fault.{Fault}
 use Rattle.kinds.specs.Meaning.{Meaning}
 use Rattle.channels.specs.declared.row.Row.{Row}
 use Rattle.channels.specs.Table.{row_at}
-use Rattle.rules.specs.Calls.{Call, Act, shows, commands, writes}
+use Rattle.rules.specs.Calls.{Call, Act, samples, shows, selects, commands, writes, opens, closes, restarts}
 use Rattle.rules.specs.Rules.{Fixed, Held, checked, next, shown}
 use Rattle.rules.specs.Events.{is_accepted, resting, stores}
 
@@ -28,10 +28,14 @@ module _ {V : Type 0} (m : Meaning V) (P : Fixed V) where
   -- an accepted call, with the calls cs from it on, is not foreign to channel k: samples, selects, restarts, keypad openings
   -- and closings, writes of the channel's settings, and the commands of its finished teaches
   abbrev pub belongs : ℕ → Held V → List Call → Act V → Bool
+  belongs k h cs (samples r g) = true
   belongs k h cs (shows octets) = false
+  belongs k h cs (selects j) = true
   belongs k h cs (commands g) = h.selected == k && finished h cs
   belongs k h cs (writes j ps) = j == k
-  belongs k h cs a = true
+  belongs k h cs opens = true
+  belongs k h cs closes = true
+  belongs k h cs restarts = true
 
   -- a denied call never stays
   abbrev pub stays_by : ℕ → Held V → List Call → Result (Act V) Fault → Bool
