@@ -164,7 +164,7 @@ impl<K: Kind> fmt::Display for Value<K> {
     }
 }
 
-// A channel, or of one that was there before what changed.
+// The fields of a channel: all of them, or those that differ from what it was before.
 #[derive(Clone, Copy)]
 pub struct Fields<'a, K> {
     pub before: Option<&'a Channel<K>>,

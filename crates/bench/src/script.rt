@@ -51,7 +51,7 @@ pub enum Problem {
 }
 
 // The buffer of a call where the script names none.
-pub const USUAL_BUFFER: u16 = 16;
+const USUAL_BUFFER: u16 = 16;
 
 const SENSOR_FORM: &str = "sensor int16, int32 or float32";
 
@@ -183,38 +183,34 @@ fn reading(heap: Global, text: &str) -> Result<Reading<Vec<u8>>, Problem> {
     }
 }
 
-// `into LENGTH`, or nothing for the usual buffer.
-fn buffer(into: Option<&str>, length: Option<&str>) -> Result<u16, Problem> {
-    match (into, length) {
-        (None, None) => Ok(USUAL_BUFFER),
-        (Some("into"), Some(n)) => number(n, LENGTH_FORM),
-        _ => Err(Problem::Expected(SAMPLE_FORM)),
+// What stands before `into LENGTH`, and the length; the usual one where none is given. No octet has the letters of `into`.
+fn into_buffer<'a>(rest: &'a str, expected: &'static str) -> Result<(&'a str, u16), Problem> {
+    let Some((before, after)) = rest.split_once("into") else {
+        return Ok((rest, USUAL_BUFFER));
+    };
+    if before.trim_end() == before || (after.trim_start() == after && !after.is_empty()) {
+        return Err(Problem::Expected(expected));
     }
+    Ok((before.trim(), number(after.trim(), LENGTH_FORM)?))
 }
 
 fn sample(heap: Global, rest: &str) -> Result<Call, Problem> {
-    let mut words = rest.split_whitespace();
-    let first = words.next().ok_or(Problem::Expected(SAMPLE_FORM))?;
-    let reading = reading(heap, first)?;
-    let into = words.next();
-    let length = words.next();
-    if words.next().is_some() {
+    let (text, length) = into_buffer(rest, SAMPLE_FORM)?;
+    let mut words = text.split_whitespace();
+    let (Some(word), None) = (words.next(), words.next()) else {
         return Err(Problem::Expected(SAMPLE_FORM));
-    }
-    Ok(Call::Sample(reading, buffer(into, length)?))
+    };
+    Ok(Call::Sample(reading(heap, word)?, length))
 }
 
 // Octets with free spaces between them, and the response buffer.
 fn request(heap: Global, rest: &str) -> Result<Call, Problem> {
-    let (octets_text, length) = match rest.split_once("into") {
-        Some((before, after)) => (before, number(after.trim(), LENGTH_FORM)?),
-        None => (rest, USUAL_BUFFER),
-    };
-    if octets_text.trim().is_empty() {
+    let (text, length) = into_buffer(rest, REQUEST_FORM)?;
+    if text.is_empty() {
         return Err(Problem::Expected(REQUEST_FORM));
     }
     let mut frame = Vec::new(heap);
-    for word in octets_text.split_whitespace() {
+    for word in text.split_whitespace() {
         frame.extend_from_slice(octets(heap, word)?.as_slice())?;
     }
     Ok(Call::Request(frame, length))
@@ -246,10 +242,11 @@ fn write(heap: Global, rest: &str) -> Result<Call, Problem> {
 }
 
 fn close(rest: &str) -> Result<Call, Problem> {
-    if rest.is_empty() {
+    let mut words = rest.split_whitespace();
+    let (Some(serial), None) = (words.next(), words.next()) else {
         return Err(Problem::Expected(CLOSE_FORM));
-    }
-    Ok(Call::CloseKeypad(number(rest, SERIAL_FORM)?))
+    };
+    Ok(Call::CloseKeypad(number(serial, SERIAL_FORM)?))
 }
 
 // A word that stands alone.
@@ -261,7 +258,7 @@ fn alone(line: Line, rest: &str, expected: &'static str) -> Result<Line, Problem
     }
 }
 
-fn words(heap: Global, word: &str, rest: &str) -> Result<Line, Problem> {
+fn by_word(heap: Global, word: &str, rest: &str) -> Result<Line, Problem> {
     match word {
         "sensor" => Ok(Line::Sensor(rest.parse::<KindName>()?)),
         "setup" => Ok(Line::Call(Call::SetUp(setup(heap, rest)?))),
@@ -285,5 +282,5 @@ pub fn read_line(heap: Global, text: &str) -> Result<Line, Problem> {
         return Ok(Line::Blank);
     }
     let (word, rest) = text.split_once(char::is_whitespace).unwrap_or((text, ""));
-    words(heap, word, rest.trim())
+    by_word(heap, word, rest.trim())
 }

@@ -1,4 +1,4 @@
-// What a write does to the device, and what a read shows of it.
+// What a write does to the device.
 ghost use Rattle.sensor.specs.Access.{commanded, device_or, past_count, selected_by, with_selection, write_reply_of, written};
 ghost use Rattle.std.specs.Prelude.{◌≡◌};
 

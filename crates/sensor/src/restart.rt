@@ -6,15 +6,13 @@ use super::device::Device;
 use super::sensor::Sensor;
 use faults::{Denial, Fault};
 use kinds::kind::Kind;
-use teach::teaching::Teach;
 
 impl<K: Kind> Device<K> {
     fn restart(&mut self)
         ensures { self.new ≡ restarted_device self.old }
     {
         self.channels.rest();
-        self.selected = 1;
-        self.teach = Teach::idle();
+        self.turn_to(1);
     }
 }
 

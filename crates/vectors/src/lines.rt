@@ -169,7 +169,10 @@ fn read_setup(heap: Global, fields: &str) -> Result<Setup<Vec<u8>>, Unreadable> 
     let (scale, fields) = field(fields, "scale")?;
     let (capture, fields) = field(fields, "capture")?;
     let (spread, fields) = field(fields, "spread")?;
-    let (distance, _) = field(fields, "distance")?;
+    let (distance, fields) = field(fields, "distance")?;
+    if !fields.is_empty() {
+        return Err(Unreadable::Layout);
+    }
     Ok(Setup {
         serial: number(serial)?,
         channels: number(channels)?,
