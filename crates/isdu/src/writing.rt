@@ -20,8 +20,8 @@ fn put(out: &mut [u8], at: usize, octets: &[u8]) -> usize
     end
 }
 
-// Writes data at a place, as `put` does. The four arms do the same: where the length is that of one value or of two, it is known,
-// and the copy needs no call.
+// Writes data at a place, as `put` does. The lengths of one value and of two stand by themselves: with a known length the copy
+// needs no call.
 fn put_data(out: &mut [u8], at: usize, data: &[u8]) -> usize
     requires { at + length «data».now ≤ length out.old }
     ensures end { result ≡ at + length «data».now }
