@@ -1,8 +1,8 @@
 // From octets to a request.
-ghost use Rattle.std.specs.Prelude.{◌≡◌, ◌/◌, ◌%◌, length, option_map};
+ghost use Rattle.std.specs.Prelude.{◌≡◌, ◌+◌, ◌/◌, ◌%◌, cond, [], ◌∷◌, ◌++◌, length, Some, None, option_map, nat_eq};
+ghost use Rattle.std.specs.Option.{option_eq};
 ghost use Rattle.isdu.specs.Addresses.{address_of};
-ghost use Rattle.isdu.specs.CheckOctet.{before_check};
-ghost use Rattle.isdu.specs.Decoding.{asked_with, decoded, past_length, request_of, stated_length};
+ghost use Rattle.isdu.specs.Decoding.{asked_with, decoded, has_second, past_length, request_of, stated_length};
 ghost use Rattle.isdu.specs.Layout.{Judged};
 ghost use Rattle.isdu.specs.Promises.{Recomposes};
 ghost use Rattle.isdu.specs.Services.{service_of};
@@ -47,41 +47,39 @@ fn request_of<'a>(digit: u8, second: bool, body: &'a [u8]) -> Result<Request<'a>
     Ok(request)
 }
 
-// The length that a frame states, if any: in its first octet, or in the second.
-fn stated_length(first: u8, rest: &[u8]) -> Option<usize>
-    ensures { result ≡ stated_length first rest.now }
+// The octets between length and check octet, of those between first and last octet: none if the frame states another length
+// than its own. The first octet decides both, so they are told together.
+fn body_of<'a>(first: u8, inner: &'a [u8]) -> Option<&'a [u8]>
+    ensures { option_map (λ b. b.now) result ≡ cond (option_eq nat_eq (stated_length first inner.now) (Some (length inner.now + 2))) (Some (past_length (has_second first) inner.now)) None }
 {
-    match (first % 16, rest) {
-        (1, [total @ 17..=238, ..]) => Some(usize::from(*total)),
+    let n = inner.len() + 2;
+    match (first % 16, inner) {
+        (1, [total @ 17..=238, body @ ..]) if usize::from(*total) == n => Some(body),
         (1, _) => None,
-        (digit, _) => Some(usize::from(digit)),
+        (digit, _) if usize::from(digit) == n => Some(inner),
+        _ => None,
     }
 }
 
-// The octets between length and check octet, of those after the first.
-fn body_of<'a>(second: bool, rest: &'a [u8]) -> &'a [u8]
-    ensures { result.now ≡ before_check (past_length second rest.now) }
+// The request of a frame of two octets or more. It is denied for its length, then for its check octet, then for its service.
+fn request_in<'a>(first: u8, inner: &'a [u8], last: u8) -> Result<Request<'a>, Fault>
+    ensures { told result ≡ decoded (first ∷ inner.now ++ last ∷ []) }
 {
-    match (second, rest) {
-        (true, [_, body @ .., _]) => body,
-        (false, [body @ .., _]) => body,
-        _ => &[],
+    let body = body_of(first, inner).ok_or(Denial::FrameLength)?;
+    if !has_check(first, inner, last) {
+        return Err(Fault::of(Denial::CheckOctet));
     }
+    request_of(first / 16, first % 16 == 1, body)
 }
 
-// The request that a frame asks for. It is denied for its length, then for its check octet, then for its service.
+// The request that a frame asks for. No frame has under two octets.
 pub fn decode<'a>(frame: &'a [u8]) -> Result<Request<'a>, Fault>
     ensures value { told result ≡ decoded frame.now }
     ensures judged { Judged (told result) frame.now }
     ensures recomposes { Recomposes (told result) (length frame.now) }
 {
-    let (first, rest) = frame.split_first().ok_or(Denial::FrameLength)?;
-    if stated_length(*first, rest) != Some(frame.len()) {
-        return Err(Fault::of(Denial::FrameLength));
+    match frame {
+        [first, inner @ .., last] => request_in(*first, inner, *last),
+        _ => Err(Fault::of(Denial::FrameLength)),
     }
-    if !has_check(frame) {
-        return Err(Fault::of(Denial::CheckOctet));
-    }
-    let second = *first % 16 == 1;
-    request_of(*first / 16, second, body_of(second, rest))
 }

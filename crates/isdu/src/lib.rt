@@ -70,7 +70,8 @@ mod tests {
         let mut out = [0xAA; 4];
         assert_eq!(rt; confirm_write(&mut out)?, 2);
         assert_eq!(rt; out, [0x52, 0x52, 0xAA, 0xAA]);
-        assert_eq!(rt; confirm_read(&[0x05], &mut out)?, 3);
+        out[1] = 0x05;
+        assert_eq!(rt; confirm_read(1, &mut out)?, 3);
         assert_eq!(rt; out, [0xD3, 0x05, 0xD6, 0xAA]);
         assert_eq!(rt; refuse(Direction::Write, 0x8031, &mut out)?, 4);
         assert_eq!(rt; out, [0x44, 0x80, 0x31, 0xF5]);

@@ -1,12 +1,12 @@
 // Replies to a request.
-ghost use Rattle.std.specs.Prelude.{◌≡◌, length};
+ghost use Rattle.std.specs.Prelude.{◌≡◌, length, take, drop};
 ghost use Rattle.isdu.specs.Composing.{delivered};
 ghost use Rattle.isdu.specs.Replies.{read_replied, read_reply, refusal, refusal_digit, write_reply};
 ghost use Rattle.octets.specs.Buffers.{left};
 
 use crate::Direction;
 use crate::services::Digit;
-use crate::writing::send;
+use crate::writing::{enclose, send};
 use faults::{Denial, Fault};
 
 // The reply to a write that was done.
@@ -17,15 +17,16 @@ pub fn confirm_write(out: &mut [u8]) -> Result<usize, Fault>
     send(Digit { value: 0x5 }, &[], &[], out)
 }
 
-// The reply to a read, with what was read.
-pub fn confirm_read(data: &[u8], out: &mut [u8]) -> Result<usize, Fault>
-    ensures answer { result ≡ read_replied «data».now (length out.old) }
-    ensures buffer { out.new ≡ left result (read_reply «data».now) out.old }
+// The reply to a read, around the `n` octets of data that stand in the buffer already, behind its first octet. More than 13
+// would stand behind two octets of heading.
+pub fn confirm_read(n: usize, out: &mut [u8]) -> Result<usize, Fault>
+    ensures answer { result ≡ read_replied n (length out.old) }
+    ensures buffer { out.new ≡ left result (read_reply (take n (drop 1 out.old))) out.old }
 {
-    if data.is_empty() {
+    if n == 0 || n > 13 {
         return Err(Fault::of(Denial::NoFrame));
     }
-    send(Digit { value: 0xD }, &[], data, out)
+    enclose(Digit { value: 0xD }, n, out)
 }
 
 fn refusal_digit(direction: Direction) -> Digit

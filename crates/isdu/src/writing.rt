@@ -20,21 +20,6 @@ fn put(out: &mut [u8], at: usize, octets: &[u8]) -> usize
     end
 }
 
-// Writes data at a place, as `put` does. The lengths of one value and of two stand by themselves: with a known length the copy
-// needs no call.
-fn put_data(out: &mut [u8], at: usize, data: &[u8]) -> usize
-    requires { at + length «data».now ≤ length out.old }
-    ensures end { result ≡ at + length «data».now }
-    ensures buffer { out.new ≡ take at out.old ++ over «data».now (drop at out.old) }
-{
-    match data.len() {
-        2 => put(out, at, data),
-        4 => put(out, at, data),
-        8 => put(out, at, data),
-        _ => put(out, at, data),
-    }
-}
-
 // Writes service and length of a frame that has `size` octets without a second length octet. `as` and no `try_from`: that
 // nothing is lost is proved, and an `Err` could not come.
 fn put_heading(out: &mut [u8], digit: Digit, size: usize) -> usize
@@ -89,7 +74,7 @@ fn put_frame(out: &mut [u8], digit: Digit, address: &[u8], data: &[u8]) -> usize
 {
     let at = put_heading(out, digit, address.len() + data.len() + 2);
     let at = put(out, at, address);
-    let at = put_data(out, at, data);
+    let at = put(out, at, data);
     put_check(out, at)
 }
 
@@ -106,4 +91,17 @@ pub(crate) fn send(
 {
     frame_length(address, data, out.len())?;
     Ok(put_frame(out, digit, address, data))
+}
+
+// Puts heading and check octet around `n` octets that stand behind the first octet, and answers the length of the frame.
+pub(crate) fn enclose(digit: Digit, n: usize, out: &mut [u8]) -> Result<usize, Fault>
+    requires { n ≤ 13 }
+    ensures answer { result ≡ delivered (n + 2) (length out.old) }
+    ensures buffer { out.new ≡ left result (framed digit.value (take n (drop 1 out.old))) out.old }
+{
+    if out.len() < n + 2 {
+        return Err(Fault::of(Denial::BufferTooShort));
+    }
+    let at = put_heading(out, digit, n + 2);
+    Ok(put_check(out, at + n))
 }

@@ -1,12 +1,8 @@
 -- What a read shows of a channel has from one to eight octets.
-use Rattle.std.proofs.Common.{ℕ, ◌≤◌, Bool, true, false, cond, eqb, List, ◌++◌, length, inl, inr, arith, length-append}
+use Rattle.std.proofs.Common.{ℕ, ◌≤◌, Bool, true, false, cond, eqb, List, ◌++◌, inl, inr, arith, length-append}
 use Rattle.kinds.specs.Meaning.{Meaning, Lawful}
 use Rattle.channels.specs.declared.row.Row.{Row}
-use Rattle.objects.specs.Reads.{configuration_read, setpoints_read}
-
--- from one octet to eight
-abbrev pub OneToEight : List ℕ → Type 0
-OneToEight xs = (1 ≤ length xs) × (length xs ≤ 8)
+use Rattle.objects.specs.Reads.{OneToEight, configuration_read, setpoints_read}
 
 either : (b : Bool) (xs ys : List ℕ) → OneToEight xs → OneToEight ys → OneToEight (cond b xs ys)
 either true xs ys h k = h

@@ -1,5 +1,5 @@
 -- What a read may reach, and what it shows of a channel.
-use Rattle.std.specs.Prelude.{◌≡◌, ℕ, ◌/◌, ◌%◌, true, cond, List, [], ◌∷◌, ◌++◌, is_some, Some, None, Option, ◌==◌}
+use Rattle.std.specs.Prelude.{◌≡◌, ℕ, ◌/◌, ◌%◌, ◌≤◌, true, cond, List, [], ◌∷◌, ◌++◌, length, is_some, Some, None, Option, ◌==◌}
 use Rattle.isdu.specs.declared.Direction.TheVariants.{Read}
 use Rattle.kinds.specs.Meaning.{Meaning}
 use Rattle.channels.specs.declared.row.Row.{Row}
@@ -8,6 +8,10 @@ use Rattle.channels.specs.Table.{row_at}
 use Rattle.objects.specs.declared.object.Object.{Object}
 use Rattle.objects.specs.declared.object.Object.TheVariants.{SystemCommand, TeachSelect, TeachResult, Setpoints, Configuration}
 use Rattle.objects.specs.Objects.{allows}
+
+-- what a read shows has one octet to eight
+abbrev pub OneToEight : List ℕ → Type 0
+OneToEight octets = (1 ≤ length octets) × (length octets ≤ 8)
 
 module _ {V : Type 0} where
   -- SP1 and SP2, or one of them

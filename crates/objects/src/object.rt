@@ -68,9 +68,9 @@ impl Object {
     fn has_direction(self, direction: Direction) -> bool
         ensures { result ≡ allows self direction }
     {
-        match (self, direction) {
-            (Object::SystemCommand, Direction::Read) => false,
-            (Object::TeachResult, Direction::Write) => false,
+        match (direction, self) {
+            (Direction::Read, Object::SystemCommand) => false,
+            (Direction::Write, Object::TeachResult) => false,
             _ => true,
         }
     }

@@ -1,4 +1,4 @@
+mod Behind
 mod Reading
-mod Replying
 mod Sizes
 mod Writing

@@ -1,16 +1,14 @@
--- What a read shows has from one octet to eight, so it fits the buffer that it is gathered in.
-use Rattle.std.proofs.Common.{◌≡◌, ℕ, ◌≤◌, true, List, length, length-append, take, drop, is_some, Some, None, Option, sym, ap, ◌∙◌, subst, arith}
-use lib.Seq.{take-append_seam}
-use Rattle.octets.specs.Buffers.{fitting, placed}
-use Rattle.octets.proofs.Rooms.{fitting_room, placed_room}
+-- What a read shows has one octet to eight, and a channel that has its row has it among the rows.
+use Rattle.std.proofs.Common.{◌≡◌, ℕ, zero, suc, ◌-◌, Bool, true, false, cond, List, [], ◌∷◌, slice_index_or, is_some, Some, None, Option, refl, arith}
 use Rattle.kinds.specs.Meaning.{Meaning, Lawful}
 use Rattle.channels.specs.declared.row.Row.{Row}
-use Rattle.channels.specs.Table.{row_at}
+use Rattle.channels.specs.declared.table.Table.{Table}
+use Rattle.channels.specs.Table.{has_channel, nth, row_at}
 use Rattle.objects.specs.declared.object.Object.{Object}
 use Rattle.objects.specs.declared.object.Object.TheVariants.{SystemCommand, TeachSelect, TeachResult, Setpoints, Configuration}
 use Rattle.sensor.specs.declared.device.Device.{Device}
-use Rattle.objects.specs.Reads.{Readable, configuration_read, row_read, setpoints_read}
-use Rattle.objects.proofs.Showing.{OneToEight, configuration_shown, setpoints_shown}
+use Rattle.objects.specs.Reads.{OneToEight, Readable, configuration_read, row_read, setpoints_read}
+use Rattle.objects.proofs.Showing.{configuration_shown, setpoints_shown}
 use Rattle.sensor.specs.Access.{read_octets}
 
 module _ {V : Type 0} (m : Meaning V) (l : Lawful V m) where
@@ -25,22 +23,15 @@ module _ {V : Type 0} (m : Meaning V) (l : Lawful V m) where
   read_shown d (Setpoints k) sub h = row_shown (setpoints_read m sub) (setpoints_shown m l sub) (row_at d.channels k) h.1
   read_shown d (Configuration k) sub h = row_shown (configuration_read sub) (configuration_shown sub) (row_at d.channels k) h.1
 
--- octets of which a buffer has room stand at its front
-module _ (octets buffer : List ℕ) (h : length octets ≤ length buffer) where
-  pub gathered_some : Some (length octets) ≡ fitting octets buffer
-  gathered_some = fitting_room octets buffer h
+module _ {V : Type 0} where
+  nth_some : (rows : List (Row V)) (j : ℕ) (d : Row V) → is_some (nth rows j) ≡ true → Some (slice_index_or rows j d) ≡ nth rows j
+  nth_some [] j d h = absurd (let z : ◌≡◌ {A = ℕ} 0 1 = cc in omega arith)
+  nth_some (r ∷ rows) zero d h = refl
+  nth_some (r ∷ rows) (suc j) d h = nth_some rows j d h
 
-  same : (x y : ℕ) → ◌≡◌ {A = Option ℕ} (Some x) (Some y) → x ≡ y
-  same x y p = cc
-
-  pub gathered_count : (r : Option ℕ) (n : ℕ) → r ≡ fitting octets buffer → r ≡ Some n → n ≡ length octets
-  gathered_count r n e f = same n (length octets) (sym f ∙ e ∙ sym gathered_some)
-
-  pub gathered_within : length octets ≤ length (placed octets buffer)
-  gathered_within =
-      subst (λ xs. length octets ≤ length xs) (placed_room octets buffer h) (omega (arith, length-append octets (drop (length octets) buffer)))
-
-  pub gathered : take (length octets) (placed octets buffer) ≡ octets
-  gathered =
-      ap (take (length octets)) (sym (placed_room octets buffer h))
-      ∙ take-append_seam octets (drop (length octets) buffer)
+  pub row_some : (t : Table V) (k : ℕ) (d : Row V) → is_some (row_at t k) ≡ true → Some (slice_index_or t.rows (k - 1) d) ≡ row_at t k
+  row_some t k d = by_presence (has_channel t k)
+    where
+      by_presence : (b : Bool) → is_some (cond b (nth t.rows (k - 1)) None) ≡ true → Some (slice_index_or t.rows (k - 1) d) ≡ cond b (nth t.rows (k - 1)) None
+      by_presence true h = nth_some t.rows (k - 1) d h
+      by_presence false h = absurd (let z : ◌≡◌ {A = ℕ} 0 1 = cc in omega arith)

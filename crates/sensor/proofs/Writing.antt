@@ -1,10 +1,17 @@
 -- What a write answers, by the reply that it gave.
-use Rattle.std.proofs.Common.{◌≡◌, ℕ, Ok, Err, Result, refl, ap, arith}
+use Rattle.std.proofs.Common.{◌≡◌, ℕ, ◌≤◌, length, Ok, Err, Result, refl, ap, arith, le-ltb}
+use Rattle.std.proofs.lemmas.Bool.{cond-false}
 use Rattle.faults.specs.declared.Fault.{Fault}
 use Rattle.isdu.specs.declared.Direction.TheVariants.{Write}
+use Rattle.isdu.specs.Composing.{delivered}
+use Rattle.isdu.specs.Replies.{write_reply}
 use Rattle.sensor.specs.declared.device.Device.{Device}
 use Rattle.sensor.specs.Access.{device_or, write_reply_of}
 use Rattle.sensor.specs.Requests.{confirms, refuses, write_answered}
+
+-- the reply to a write that is done has room in 16 octets or more
+pub write_confirmed : (room : ℕ) → 16 ≤ room → delivered (length write_reply) room ≡ Ok (length write_reply)
+write_confirmed room h = cond-false _ _ _ (le-ltb room 2 (omega arith))
 
 module _ {V : Type 0} (d : Device V) where
   pub write_done : (w : Result (Device V) Fault) → Ok tt ≡ write_reply_of w → confirms (device_or d w) ≡ write_answered d w

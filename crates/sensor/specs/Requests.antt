@@ -2,7 +2,7 @@
 use Rattle.std.specs.Prelude.{◌≡◌, ℕ, ◌≤◌, cond, List, [], length, Some, None, Ok, Err, Option, Result, nat_lt, IfOk}
 use Rattle.octets.specs.Buffers.{over}
 use Rattle.faults.specs.declared.Fault.{Fault}
-use Rattle.faults.specs.declared.Denial.TheVariants.{Blank, BufferTooShort, ResponseBuffer}
+use Rattle.faults.specs.declared.Denial.TheVariants.{Blank, ResponseBuffer}
 use Rattle.faults.specs.Denials.{entry, fault}
 use Rattle.isdu.specs.declared.Direction.{Direction}
 use Rattle.isdu.specs.declared.Direction.TheVariants.{Read, Write}
@@ -12,7 +12,7 @@ use Rattle.isdu.specs.Requests.{Asked}
 use Rattle.kinds.specs.Meaning.{Meaning}
 use Rattle.objects.specs.declared.object.Object.{Object}
 use Rattle.objects.specs.Objects.{access_checked, place_of}
-use Rattle.objects.specs.Reads.{Readable}
+use Rattle.objects.specs.Reads.{OneToEight}
 use Rattle.sensor.specs.declared.device.Device.{Device}
 use Rattle.sensor.specs.declared.sensor.Sensor.{Sensor}
 use Rattle.sensor.specs.Access.{read_octets, written}
@@ -22,15 +22,6 @@ pub record Answered (V : Type 0) : Type 0 where
   pub reply : Result ℕ Fault
   pub device : Device V
   pub response : List ℕ
-
--- a response has at most 16 octets, and the reply to an accepted request is how many they are
-abbrev pub IsShort : {V : Type 0} → Answered V → Type 0
-IsShort x = (length x.response ≤ 16) × IfOk x.reply (λ n. n ≡ length x.response)
-
--- the reply where the buffer has so much room. 6: the response of an accepted request does not fit
-abbrev pub reply_in : ℕ → Result ℕ Fault → Result ℕ Fault
-reply_in room (Ok n) = cond (nat_lt room n) (Err (fault BufferTooShort)) (Ok n)
-reply_in room (Err f) = Err f
 
 -- the negative response tells a denial's ErrorCode; a denial without one has none
 abbrev pub negative : Direction → Option ℕ → List ℕ
@@ -71,9 +62,9 @@ module _ {V : Type 0} (m : Meaning V) where
   abbrev pub answered : Device V → Asked → Answered V
   answered d a = access_answered d a (access_checked m d.channels d.keypad a)
 
-  -- an object that may be read has octets to show: its channel has its row
+  -- an object that may be read has one octet to eight to show
   abbrev pub IsShown : Device V → Asked → Type 0
-  IsShown d a = IfOk (access_checked m d.channels d.keypad a) (λ o. a.direction ≡ Read → Readable d.channels o)
+  IsShown d a = IfOk (access_checked m d.channels d.keypad a) (λ o. a.direction ≡ Read → OneToEight (read_octets m d o a.subindex))
 
   -- 8, 9 and 10 by the frame
   abbrev pub frame_answered : Device V → Result Asked Fault → Answered V

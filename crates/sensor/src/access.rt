@@ -24,7 +24,7 @@ impl<K: Kind> Device<K> {
     }
 
     // Turns to a channel, which drops the teach.
-    pub fn turn_to(&mut self, channel: u8)
+    pub(crate) fn turn_to(&mut self, channel: u8)
         ensures { self.new ≡ with_selection self.old channel }
     {
         self.selected = channel;
@@ -74,7 +74,7 @@ impl<K: Kind> Device<K> {
     }
 
     // Writes an object that passed the checks of its access. A denied write changes nothing.
-    pub fn write(&mut self, object: Object, place: Place, octets: &[u8]) -> Result<(), Fault>
+    pub(crate) fn write(&mut self, object: Object, place: Place, octets: &[u8]) -> Result<(), Fault>
         ensures reply { result ≡ write_reply_of (written K.meaning self.old place object octets.now) }
         ensures device { self.new ≡ device_or self.old (written K.meaning self.old place object octets.now) }
     {

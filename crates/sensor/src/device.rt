@@ -30,7 +30,7 @@ pub struct Device<K> {
 
 impl<K: Kind> Device<K> {
     // Gives a channel another setpoint; one that is not present stays away.
-    pub fn put_setpoint(&mut self, channel: u8, setpoint: Setpoint, value: K)
+    pub(crate) fn put_setpoint(&mut self, channel: u8, setpoint: Setpoint, value: K)
         ensures { self.new ≡ with_channels self.old (with_stored self.old.channels channel setpoint value) }
     {
         let Some(mut row) = self.channels.row(channel) else {
@@ -44,7 +44,7 @@ impl<K: Kind> Device<K> {
     }
 
     // Stores a setpoint that was taught, in the selected channel.
-    pub fn store(&mut self, store: Option<Store<K>>)
+    pub(crate) fn store(&mut self, store: Option<Store<K>>)
         ensures { self.new ≡ stored self.old store }
     {
         if let Some(store) = store {
@@ -73,7 +73,7 @@ impl<K: Kind> Device<K> {
     }
 
     // Judges every channel by the reading, feeds the teach, and writes process data.
-    pub fn sample(&mut self, reading: Reading<K>, out: &mut [u8]) -> Result<usize, Fault>
+    pub(crate) fn sample(&mut self, reading: Reading<K>, out: &mut [u8]) -> Result<usize, Fault>
         ensures reply { result ≡ device_reply K.meaning out.old }
         ensures device { self.new ≡ device_after K.meaning self.old reading out.old }
         ensures buffer { out.new ≡ device_buffer K.meaning self.old reading out.old }

@@ -5,10 +5,10 @@ ghost use Rattle.isdu.specs.Views.{asks};
 ghost use Rattle.isdu.specs.declared.Direction.TheVariants.{Read};
 ghost use Rattle.objects.specs.Objects.{access_checked};
 ghost use Rattle.objects.specs.Reads.{Readable};
-ghost use Rattle.octets.specs.Buffers.{over, placed};
+ghost use Rattle.octets.specs.Buffers.{over};
 ghost use Rattle.sensor.specs.Access.{read_octets};
-ghost use Rattle.sensor.specs.Requests.{FrameIsShown, IsShort, IsShown, answered, device_answered, negative, object_answered, reply_in};
-ghost use Rattle.std.specs.Prelude.{◌≡◌, length, IfOk, Ok, Err};
+ghost use Rattle.sensor.specs.Requests.{FrameIsShown, IsShown, answered, device_answered, negative, object_answered};
+ghost use Rattle.std.specs.Prelude.{◌≡◌, ◌≤◌, length, IfOk, Ok, Err};
 
 use super::device::Device;
 use faults::{Denial, Fault};
@@ -18,8 +18,9 @@ use objects::object::{Object, access, place};
 
 // Writes the negative response of a fault.
 fn deny(fault: Fault, direction: Direction, out: &mut [u8]) -> Result<usize, Fault>
+    requires { 16 ≤ length out.old }
     ensures reply { result ≡ Err fault }
-    ensures buffer { out.new ≡ placed (negative direction (entry fault.denial).code) out.old }
+    ensures buffer { out.new ≡ over (negative direction (entry fault.denial).code) out.old }
 {
     if let Some(code) = fault.denial.error_code() {
         let _ = refuse(direction, code, out);
@@ -30,31 +31,31 @@ fn deny(fault: Fault, direction: Direction, out: &mut [u8]) -> Result<usize, Fau
 impl<K: Kind> Device<K> {
     // The object that a request may reach: the checks 11 to 16. What a read reaches can be shown: said in clauses, as it is of
     // object and table together.
-    pub fn access(&self, request: &Request) -> Result<Object, Fault>
+    fn access(&self, request: &Request) -> Result<Object, Fault>
         ensures object { result ≡ access_checked K.meaning self.now.channels self.now.keypad (asks request.now) }
         ensures readable { IfOk result (λ o. request.now.direction ≡ Read → Readable self.now.channels o) }
     {
         access(&self.channels, self.keypad, request)
     }
 
-    // The positive response to a read.
+    // The positive response to a read. The object's octets are written where they stay, behind the heading.
     fn show(&self, object: Object, subindex: u8, out: &mut [u8]) -> Result<usize, Fault>
-        requires { Readable self.now.channels object }
-        ensures reply { result ≡ reply_in (length out.old) (Ok (length (read_reply (read_octets K.meaning self.now object subindex)))) }
-        ensures buffer { out.new ≡ placed (read_reply (read_octets K.meaning self.now object subindex)) out.old }
+        requires readable { Readable self.now.channels object }
+        requires room { 16 ≤ length out.old }
+        ensures reply { result ≡ Ok (length (read_reply (read_octets K.meaning self.now object subindex))) }
+        ensures buffer { out.new ≡ over (read_reply (read_octets K.meaning self.now object subindex)) out.old }
     {
-        // No heap: an object has at most 8 octets.
-        let mut octets = [0u8; 8];
-        let n = self.read(object, subindex, &mut octets).unwrap();
-        confirm_read(&octets[..n], out)
+        let n = self.read(object, subindex, &mut out[1..]).unwrap();
+        confirm_read(n, out)
     }
 
     // Reads or writes an object that the request may reach.
     fn perform(&mut self, request: &Request, object: Object, out: &mut [u8]) -> Result<usize, Fault>
-        requires { request.now.direction ≡ Read → Readable self.old.channels object }
-        ensures reply { result ≡ reply_in (length out.old) (object_answered K.meaning request.now.direction self.old (asks request.now) object).reply }
+        requires readable { request.now.direction ≡ Read → Readable self.old.channels object }
+        requires room { 16 ≤ length out.old }
+        ensures reply { result ≡ (object_answered K.meaning request.now.direction self.old (asks request.now) object).reply }
         ensures device { self.new ≡ (object_answered K.meaning request.now.direction self.old (asks request.now) object).device }
-        ensures buffer { out.new ≡ placed (object_answered K.meaning request.now.direction self.old (asks request.now) object).response out.old }
+        ensures buffer { out.new ≡ over (object_answered K.meaning request.now.direction self.old (asks request.now) object).response out.old }
     {
         match request.direction {
             Direction::Read => self.show(object, request.subindex, out),
@@ -66,11 +67,11 @@ impl<K: Kind> Device<K> {
     }
 
     // Answers a request: the checks 11 to 21, then the read or the write, and the response.
-    pub fn respond(&mut self, request: &Request, out: &mut [u8]) -> Result<usize, Fault>
-        ensures reply { result ≡ reply_in (length out.old) (answered K.meaning self.old (asks request.now)).reply }
+    fn respond(&mut self, request: &Request, out: &mut [u8]) -> Result<usize, Fault>
+        requires { 16 ≤ length out.old }
+        ensures reply { result ≡ (answered K.meaning self.old (asks request.now)).reply }
         ensures device { self.new ≡ (answered K.meaning self.old (asks request.now)).device }
-        ensures buffer { out.new ≡ placed (answered K.meaning self.old (asks request.now)).response out.old }
-        ensures short { IsShort (answered K.meaning self.old (asks request.now)) }
+        ensures buffer { out.new ≡ over (answered K.meaning self.old (asks request.now)).response out.old }
         ensures shown { IsShown K.meaning self.old (asks request.now) }
     {
         match self.access(request) {
@@ -80,7 +81,7 @@ impl<K: Kind> Device<K> {
     }
 
     // Takes a request, once there is room for any response. A frame that is no request is denied with nothing written.
-    pub fn request(&mut self, frame: &[u8], out: &mut [u8]) -> Result<usize, Fault>
+    pub(crate) fn request(&mut self, frame: &[u8], out: &mut [u8]) -> Result<usize, Fault>
         ensures reply { result ≡ (device_answered K.meaning self.old frame.now out.old).reply }
         ensures device { self.new ≡ (device_answered K.meaning self.old frame.now out.old).device }
         ensures buffer { out.new ≡ over (device_answered K.meaning self.old frame.now out.old).response out.old }

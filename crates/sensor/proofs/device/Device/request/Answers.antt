@@ -4,9 +4,7 @@ use Rattle.octets.specs.Buffers.{over}
 use Rattle.faults.specs.declared.Denial.TheVariants.{ResponseBuffer}
 use Rattle.faults.specs.Denials.{fault}
 use Rattle.isdu.specs.Decoding.{decoded}
-use Rattle.isdu.specs.Views.{asks}
-use Rattle.sensor.specs.Requests.{Answered, IsShown, answered, denies, frame_answered}
-use Rattle.sensor.proofs.Replying.{reply_whole, placed_whole}
+use Rattle.sensor.specs.Requests.{Answered, IsShown, denies, frame_answered}
 use Rattle.sensor.proofs.device.Device.request.Goals as goal
 
 pub returns-then-out-lt16 : goal.returns-then-out-lt16
@@ -43,14 +41,12 @@ returns g c =
     let m = g.K.Kind.meaning in
     let d = c.args.self.now in
     let out = c.args.out.now in
-    let a = asks c.in_ok-request.request in
-    let short = c.respond.ensures.short in
     let e =
     ap (frame_answered m d) c.in_ok-request.ensures.value
     ∙ ap (λ (b : Bool). cond b (denies d (fault ResponseBuffer)) (frame_answered m d (decoded c.args.frame.now))) (sym (le-ltb (length out) 16 c.if-out-lt16.false)) in
     record {
-      reply = c.respond.ensures.reply ∙ reply_whole (answered m d a).reply (answered m d a).response (length out) short.0 short.1 c.if-out-lt16.false ∙ ap (λ (x : Answered _). x.reply) e;
+      reply = c.respond.ensures.reply ∙ ap (λ (x : Answered _). x.reply) e;
       device = c.respond.ensures.device ∙ ap (λ (x : Answered _). x.device) e;
-      buffer = c.respond.ensures.buffer ∙ placed_whole (answered m d a).response out short.0 c.if-out-lt16.false ∙ ap (λ (x : Answered _). over x.response out) e;
+      buffer = c.respond.ensures.buffer ∙ ap (λ (x : Answered _). over x.response out) e;
       shown = λ h. subst (λ r. IfOk r (IsShown m d)) c.in_ok-request.ensures.value c.respond.ensures.shown;
     }
