@@ -8,14 +8,13 @@ To make the files of the program `vectors` again:
     python3 tools/isdu_vectors.py > crates/vectors/stdin
     python3 tools/isdu_vectors.py --summary > crates/vectors/stdout
 
-A line of a frame is octets, `=` and an outcome; `-` stands for no octets:
+Octets stand without spaces; `-` stands for no octets. A line of a frame is octets, `=` and an outcome:
 
-    26 3C 01 03 E8 F0 = write 60.1 03 E8     the octets ask for this, and are its shortest frame
-    A4 3B 00 9F = read 59.0 | 93 3B A8       they ask for this, and after the bar is its shortest frame
-    93 3B A9 = denied 9                      they are denied with this number
+    263C0103E8F0 = write 60.1 03E8           the octets ask for this, and are its shortest frame
+    A43B009F = read 59.0 | 933BA8            they ask for this, and after the bar is its shortest frame
+    933BA9 = denied 9                        they are denied with this number
 
-A line of requests is one or more frames, `>` and the answer that each of them has from the sensor, in this order. The octets
-of a frame and of a response stand without spaces:
+A line of requests is one or more frames, `>` and the answer that each of them has from the sensor, in this order:
 
     263C0103E8F0 > 5252                      the whole response to an accepted request
     9363F0 9364F7 > denied 11 C4801155       the denial and the whole response
@@ -75,7 +74,7 @@ def request_frame(form, index, subindex, data):
 
 
 def hexadecimal(octets):
-    return " ".join(f"{octet:02X}" for octet in octets) or "-"
+    return bytes(octets).hex().upper() or "-"
 
 
 class Vectors:
@@ -247,10 +246,6 @@ REFUSED = {
 }
 
 
-def joined(octets):
-    return bytes(octets).hex().upper() or "-"
-
-
 class Requests:
     """Requests to sensors of `bench_expected`, one after the other. Those in a row with the same answer share a line."""
 
@@ -282,10 +277,10 @@ class Requests:
         try:
             response = self.sensor.request(bytes(octets), 16)
             self.accepted += 1
-            return joined(response)
+            return hexadecimal(response)
         except bench_expected.Denied as denied:
             self.denied[denied.number] = self.denied.get(denied.number, 0) + 1
-            response = f" {joined(denied.octets)}" if hasattr(denied, "octets") else ""
+            response = f" {hexadecimal(denied.octets)}" if hasattr(denied, "octets") else ""
             return f"denied {denied.number}{response}"
 
     def send(self, octets):
@@ -293,7 +288,7 @@ class Requests:
         answer = self.answer_to(octets)
         if answer != self.answer or len(self.frames) == self.LONGEST:
             self.end_line()
-        self.frames.append(joined(octets))
+        self.frames.append(hexadecimal(octets))
         self.answer = answer
         return not answer.startswith("denied")
 

@@ -1,5 +1,5 @@
 // What `--help` prints.
-pub const HELP: &str = "\
+pub(crate) const HELP: &str = "\
 bench reads a session script from standard input, makes its calls on real sensors, and prints what they answered.
 
     bench < SCRIPT             a line for each call, then a summary

@@ -14,11 +14,11 @@ use kinds::float32_t::Float32T;
 use kinds::integer_t16::IntegerT16;
 use kinds::integer_t32::IntegerT32;
 use run::{Bench, Tally};
-use script::KindName;
 use sensor::sensor::Sensor;
 use session::{Section, Session};
 use std::io::Read;
 use std::{env, io};
+use words::KindName;
 
 // What the program is asked for.
 #[derive(Clone, Copy)]

@@ -71,9 +71,9 @@ impl fmt::Display for Denied<'_> {
 
 // A call with what it answered.
 #[derive(Clone, Copy)]
-pub struct Answer<'a> {
-    pub call: &'a Call,
-    pub reply: &'a Reply,
+pub(crate) struct Answer<'a> {
+    pub(crate) call: &'a Call,
+    pub(crate) reply: &'a Reply,
 }
 
 impl fmt::Display for Answer<'_> {
@@ -166,9 +166,9 @@ impl<K: Kind> fmt::Display for Value<K> {
 
 // The fields of a channel: all of them, or those that differ from what it was before.
 #[derive(Clone, Copy)]
-pub struct Fields<'a, K> {
-    pub before: Option<&'a Channel<K>>,
-    pub now: &'a Channel<K>,
+pub(crate) struct Fields<'a, K> {
+    pub(crate) before: Option<&'a Channel<K>>,
+    pub(crate) now: &'a Channel<K>,
 }
 
 impl<K: Kind> Fields<'_, K> {
@@ -179,7 +179,7 @@ impl<K: Kind> Fields<'_, K> {
         }
     }
 
-    pub fn is_empty(&self) -> bool {
+    pub(crate) fn is_empty(&self) -> bool {
         !FIELDS.iter().any(|field| self.has(*field))
     }
 }

@@ -10,7 +10,7 @@ use std::{fmt, io};
 
 // How many calls were accepted and denied.
 #[derive(Clone, Copy, Default)]
-pub struct Tally {
+pub(crate) struct Tally {
     accepted: u64,
     denied: u64,
 }
@@ -41,11 +41,11 @@ fn begins_day(call: &Call, reply: &Reply) -> bool {
 
 // What takes sensors through sections, prints each answer and counts it.
 #[derive(Drop)]
-pub struct Bench<'a> {
-    pub rt: &'a HostRuntime,
+pub(crate) struct Bench<'a> {
+    pub(crate) rt: &'a HostRuntime,
     // Whether to print what changed in the channels, and the timelines.
-    pub changes: bool,
-    pub tally: Tally,
+    pub(crate) changes: bool,
+    pub(crate) tally: Tally,
 }
 
 impl Bench<'_> {
@@ -113,7 +113,7 @@ impl Bench<'_> {
     }
 
     // Takes a sensor through a section.
-    pub fn run<K: Kind>(&mut self, sensor: Sensor<K>, section: &Section) -> io::Result<()> {
+    pub(crate) fn run<K: Kind>(&mut self, sensor: Sensor<K>, section: &Section) -> io::Result<()> {
         let log = day::run(self.rt.alloc(), sensor, section.calls.as_slice())?;
         let mut made = section.calls.iter().zip(&log);
         let mut channels: &[Channel<K>] = &[];

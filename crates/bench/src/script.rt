@@ -1,6 +1,6 @@
 // A session script: one call a line.
-ghost use Rattle.bench.specs.Digits.{hex_value, octet_value};
-ghost use Rattle.std.specs.Prelude.{◌≡◌};
+ghost use Rattle.std.specs.Prelude.{◌≡◌, IfOk, Some};
+ghost use Rattle.words.specs.Words.{octets_told};
 
 use channels::range::Range;
 use channels::reading::Reading;
@@ -10,31 +10,11 @@ use std::alloc::{AllocError, Global};
 use std::str::FromStr;
 use teach::terms::Terms;
 use thiserror::Error;
-
-// The kind of the sensor that a script names.
-#[derive(Clone, Copy, PartialEq, Eq, Debug)]
-pub enum KindName {
-    Int16,
-    Int32,
-    Float32,
-}
-
-impl FromStr for KindName {
-    type Err = Problem;
-
-    fn from_str(s: &str) -> Result<KindName, Problem> {
-        match s {
-            "int16" => Ok(KindName::Int16),
-            "int32" => Ok(KindName::Int32),
-            "float32" => Ok(KindName::Float32),
-            _ => Err(Problem::Expected(SENSOR_FORM)),
-        }
-    }
-}
+use words::{KindName, Unread};
 
 // What a line asks for.
 #[derive(Drop)]
-pub enum Line {
+pub(crate) enum Line {
     Blank,
     Sensor(KindName),
     Call(Call),
@@ -43,7 +23,7 @@ pub enum Line {
 
 // Why a line cannot be read: what was expected there, or want of memory.
 #[derive(Clone, Copy, Debug, Error)]
-pub enum Problem {
+pub(crate) enum Problem {
     #[error("expected {0}")]
     Expected(&'static str),
     #[error("out of memory")]
@@ -73,39 +53,18 @@ const NUMBER_FORM: &str = "a channel and a setpoint from 0 to 255";
 
 const LENGTH_FORM: &str = "a buffer length from 0 to 65535";
 
-// The number of a hexadecimal digit, in either case. No `to_digit`: it takes a char and answers a u32, so both would have to
-// be converted. The program `vectors` refuses small letters, so its function stands apart: one for both would need a switch.
-fn hex_digit(b: u8) -> Option<u8>
-    ensures { result ≡ hex_value b }
+fn octets(heap: Global, word: &str) -> Result<Vec<u8>, Problem>
+    ensures { IfOk result (λ v. octets_told word.now ≡ Some v.items) }
 {
-    match b {
-        b'0'..=b'9' => Some(b - b'0'),
-        b'A'..=b'F' => Some(b - b'A' + 10),
-        b'a'..=b'f' => Some(b - b'a' + 10),
-        _ => None,
-    }
+    words::octets(heap, word).map_err(|unread| match unread {
+        Unread::Unknown => Problem::Expected(OCTETS_FORM),
+        Unread::Memory => Problem::Memory(AllocError),
+    })
 }
 
-// The octet of two hexadecimal digits, the high one first.
-fn octet(a: u8, b: u8) -> Option<u8>
-    ensures { result ≡ octet_value a b }
-{
-    Some(16 * hex_digit(a)? + hex_digit(b)?)
-}
-
-// Octets from pairs of hexadecimal digits; `-` stands for none.
-fn octets(heap: Global, text: &str) -> Result<Vec<u8>, Problem> {
-    if text == "-" {
-        return Ok(Vec::new(heap));
-    }
-    let (pairs, odd) = text.as_bytes().as_chunks::<2>();
-    if pairs.is_empty() || !odd.is_empty() {
-        return Err(Problem::Expected(OCTETS_FORM));
-    }
-    pairs
-        .iter()
-        .map(|[a, b]| octet(*a, *b).ok_or(Problem::Expected(OCTETS_FORM)))
-        .try_collect(heap)
+fn kind(word: &str) -> Result<KindName, Problem> {
+    word.parse::<KindName>()
+        .map_err(|_| Problem::Expected(SENSOR_FORM))
 }
 
 // Each program has its own: a line that cannot be read is told by another enum.
@@ -260,7 +219,7 @@ fn alone(line: Line, rest: &str, expected: &'static str) -> Result<Line, Problem
 
 fn by_word(heap: Global, word: &str, rest: &str) -> Result<Line, Problem> {
     match word {
-        "sensor" => Ok(Line::Sensor(rest.parse::<KindName>()?)),
+        "sensor" => Ok(Line::Sensor(kind(rest)?)),
         "setup" => Ok(Line::Call(Call::SetUp(setup(heap, rest)?))),
         "sample" => Ok(Line::Call(sample(heap, rest)?)),
         "request" => Ok(Line::Call(request(heap, rest)?)),
@@ -276,7 +235,7 @@ fn by_word(heap: Global, word: &str, rest: &str) -> Result<Line, Problem> {
 }
 
 // What a line of a script asks for.
-pub fn read_line(heap: Global, text: &str) -> Result<Line, Problem> {
+pub(crate) fn read_line(heap: Global, text: &str) -> Result<Line, Problem> {
     let text = uncommented(text).trim();
     if text.is_empty() {
         return Ok(Line::Blank);

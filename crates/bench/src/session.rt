@@ -1,38 +1,39 @@
 // A whole script: a section for each sensor, with the calls that it is taken through.
-use super::script::{KindName, Line, Problem, read_line};
+use super::script::{Line, Problem, read_line};
 use days::call::Call;
 use std::alloc::Global;
 use thiserror::Error;
+use words::KindName;
 
 // What a line of a section does: it makes the next call, or shows the channels.
 #[derive(Clone, Copy)]
-pub enum Step {
+pub(crate) enum Step {
     Call,
     Show,
 }
 
 #[derive(Drop)]
-pub struct Section {
-    pub kind: KindName,
-    pub calls: Vec<Call>,
-    pub steps: Vec<Step>,
+pub(crate) struct Section {
+    pub(crate) kind: KindName,
+    pub(crate) calls: Vec<Call>,
+    pub(crate) steps: Vec<Step>,
 }
 
 // The line that could not be read, counted from 1.
 #[derive(Clone, Copy, Debug, Error)]
 #[error("line {line}: {problem}")]
-pub struct Trouble {
+pub(crate) struct Trouble {
     line: usize,
     problem: Problem,
 }
 
 #[derive(Drop)]
-pub struct Session {
-    pub sections: Vec<Section>,
+pub(crate) struct Session {
+    pub(crate) sections: Vec<Section>,
 }
 
 impl Session {
-    pub fn new(heap: Global) -> Session {
+    pub(crate) fn new(heap: Global) -> Session {
         Session {
             sections: Vec::new(heap),
         }
@@ -69,7 +70,7 @@ impl Session {
     }
 
     // Reads a script up to its end, or to the first line that cannot be read; what stands before that line stays.
-    pub fn read(&mut self, heap: Global, text: &str) -> Result<(), Trouble> {
+    pub(crate) fn read(&mut self, heap: Global, text: &str) -> Result<(), Trouble> {
         for (line, text) in (1..).zip(text.lines()) {
             self.take(heap, text)
                 .map_err(|problem| Trouble { line, problem })?;

@@ -5,41 +5,41 @@ use std::alloc::{AllocError, Global};
 use std::fmt;
 
 #[derive(Drop)]
-pub struct Timeline<'a, K> {
+pub(crate) struct Timeline<'a, K> {
     // The channels after each sample.
     samples: Vec<&'a [Channel<K>]>,
 }
 
 impl<'a, K: Kind> Timeline<'a, K> {
-    pub fn new(heap: Global) -> Timeline<'a, K> {
+    pub(crate) fn new(heap: Global) -> Timeline<'a, K> {
         Timeline {
             samples: Vec::new(heap),
         }
     }
 
-    pub fn clear(&mut self) {
+    pub(crate) fn clear(&mut self) {
         self.samples.clear();
     }
 
     // Takes an entry, if it is of an accepted sample.
-    pub fn take(&mut self, call: &Call, entry: &'a Entry<K>) -> Result<(), AllocError> {
+    pub(crate) fn take(&mut self, call: &Call, entry: &'a Entry<K>) -> Result<(), AllocError> {
         if let (Call::Sample(..), Reply::Accepted(_)) = (call, &entry.reply) {
             self.samples.push(entry.channels.as_slice())?;
         }
         Ok(())
     }
 
-    pub fn samples(&self) -> usize {
+    pub(crate) fn samples(&self) -> usize {
         self.samples.len()
     }
 
     // How many channels a day has does not change.
-    pub fn channels(&self) -> usize {
+    pub(crate) fn channels(&self) -> usize {
         self.samples.last().map_or(0, |channels| channels.len())
     }
 
     // The signals of a channel, counted from 0.
-    pub fn signals(&self, channel: usize) -> Signals<'_, K> {
+    pub(crate) fn signals(&self, channel: usize) -> Signals<'_, K> {
         Signals {
             samples: self.samples.as_slice(),
             channel,
@@ -49,7 +49,7 @@ impl<'a, K: Kind> Timeline<'a, K> {
 
 // The signals of one channel: `#` for 1 and `_` for 0.
 #[derive(Clone, Copy)]
-pub struct Signals<'a, K> {
+pub(crate) struct Signals<'a, K> {
     samples: &'a [&'a [Channel<K>]],
     channel: usize,
 }

@@ -2,8 +2,6 @@
 ghost use Rattle.std.specs.Prelude.{◌≡◌, ◌++◌, IfOk};
 
 use crate::answers::Answer;
-use crate::hexadecimal::{joined, octets};
-use crate::sensors::KindName;
 use channels::range::Range;
 use isdu::Direction;
 use sensor::setup::Setup;
@@ -11,6 +9,7 @@ use std::alloc::{AllocError, Global};
 use std::str::FromStr;
 use teach::terms::Terms;
 use thiserror::Error;
+use words::{KindName, Unread, octets};
 
 #[derive(Drop)]
 pub(crate) enum Line {
@@ -49,12 +48,12 @@ pub(crate) struct Requests {
     pub(crate) answer: Answer,
 }
 
-// Why a line cannot be read.
+// Why a line cannot be read. Want of memory for the octets of a word is told by `Word`.
 #[derive(Debug, Drop, Error)]
 #[error("cannot be read")]
 pub(crate) enum Unreadable {
     Memory(#[from(alloc)] AllocError),
-    Octet,
+    Word(#[from] Unread),
     Number,
     Layout,
 }
@@ -129,13 +128,13 @@ fn read_answer(heap: Global, text: &str) -> Result<Answer, Unreadable> {
     let Some(denied) = text.strip_prefix("denied ") else {
         return Ok(Answer {
             denied: None,
-            response: joined(heap, text)?,
+            response: octets(heap, text)?,
         });
     };
     let (denial, response) = denied.split_once(" ").unwrap_or((denied, "-"));
     Ok(Answer {
         denied: Some(number(denial)?),
-        response: joined(heap, response)?,
+        response: octets(heap, response)?,
     })
 }
 
@@ -143,7 +142,7 @@ fn read_requests(heap: Global, frames: &str, answer: &str) -> Result<Requests, U
     Ok(Requests {
         frames: frames
             .split(' ')
-            .map(|frame| joined(heap, frame))
+            .map(|frame| octets(heap, frame))
             .try_collect(heap)?,
         answer: read_answer(heap, answer)?,
     })
@@ -183,8 +182,8 @@ fn read_setup(heap: Global, fields: &str) -> Result<Setup<Vec<u8>>, Unreadable> 
             distance: number(distance)?,
         },
         range: Range {
-            low: joined(heap, low)?,
-            high: joined(heap, high)?,
+            low: octets(heap, low)?,
+            high: octets(heap, high)?,
         },
     })
 }

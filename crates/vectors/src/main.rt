@@ -3,7 +3,6 @@
 #![tactic(auto)]
 
 mod answers;
-mod hexadecimal;
 mod lines;
 mod replays;
 mod sensors;
@@ -13,10 +12,11 @@ use anyhow::anyhow;
 use lines::{Line, Requests, Vector, read_line};
 use replays::replay;
 use sensor::setup::Setup;
-use sensors::{AnySensor, KindName};
+use sensors::AnySensor;
 use std::io;
 use std::io::{BufRead, BufReader};
 use tally::Tally;
+use words::KindName;
 
 // A run over the lines. Requests go to the sensor of the last line that sets one up; before the first it is blank.
 #[derive(Drop)]

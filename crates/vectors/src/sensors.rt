@@ -1,6 +1,5 @@
 // A sensor of a kind that a line names.
 use crate::answers::{Answer, ask};
-use crate::lines::Unreadable;
 use crate::replays::Mismatch;
 use days::call::lent_setup;
 use faults::{Denial, Fault};
@@ -9,27 +8,7 @@ use kinds::integer_t16::IntegerT16;
 use kinds::integer_t32::IntegerT32;
 use sensor::sensor::Sensor;
 use sensor::setup::Setup;
-use std::str::FromStr;
-
-#[derive(Clone, Copy)]
-pub(crate) enum KindName {
-    Int16,
-    Int32,
-    Float32,
-}
-
-impl FromStr for KindName {
-    type Err = Unreadable;
-
-    fn from_str(s: &str) -> Result<KindName, Unreadable> {
-        match s {
-            "int16" => Ok(KindName::Int16),
-            "int32" => Ok(KindName::Int32),
-            "float32" => Ok(KindName::Float32),
-            _ => Err(Unreadable::Layout),
-        }
-    }
-}
+use words::KindName;
 
 #[derive(Drop)]
 pub(crate) enum AnySensor {
