@@ -1,15 +1,17 @@
 -- Every run answers by the tables, and keeps the laws in each of its days.
-use Rattle.std.proofs.Common.{◌≡◌, List, [], ◌∷◌, ◌++◌, map, refl, ap, ◌∙◌}
+use Rattle.std.proofs.Common.{◌≡◌, ℕ, List, [], ◌∷◌, ◌++◌, map, Ok, Err, Result, IsErr, refl, sym, ap, ◌∙◌, arith}
+use Rattle.faults.specs.declared.Fault.{Fault}
 use Rattle.kinds.specs.Meaning.{Meaning, Lawful}
 use Rattle.sensor.specs.declared.sensor.Sensor.{Sensor}
 use Rattle.sensor.specs.Devices.{channels_of}
-use Rattle.rules.specs.Rules.{Entry, first_day, shown}
+use Rattle.rules.specs.Calls.{Call}
+use Rattle.rules.specs.Rules.{Entry, Fixed, Held, after, first_day, next, shown}
 use Rattle.rules.specs.Laws.{Laws}
 use Rattle.rules.proofs.Laws.{laws}
-use Rattle.days.specs.Days.{EachDay, Line, Standing, blank, in_day, after_lines, calls_of_day, channels_at, entries_at, next_at, open_at}
+use Rattle.days.specs.Days.{EachDay, GoesOn, Line, Standing, begun, blank, call, in_day, set_up, after_lines, calls_of_day, channels_at, entries_at, next_at, open_at, set_up_checked, unless_begun}
 use Rattle.days.specs.Devices.{sensor_at}
 use Rattle.days.specs.Made.{lines_told}
-use Rattle.days.specs.Runs.{AnswersByTheTables, OfEachDay, NoForeignTrace, StoredWithinCaptured, TurnedApart, WrittenStands}
+use Rattle.days.specs.Runs.{AnswersByTheTables, DaysStandByCalls, OfEachDay, NoForeignTrace, StoredWithinCaptured, TurnedApart, WrittenStands}
 use Rattle.days.proofs.Standings.{SoundAt, counted, made_is, sound_line, sound_lines, told_is}
 
 module _ {V : Type 0} (m : Meaning V) (l : Lawful V m) where
@@ -29,6 +31,31 @@ module _ {V : Type 0} (m : Meaning V) (l : Lawful V m) where
   pub answers_by_the_tables : (s : Sensor V) (lines : List Line) (log : List (Entry V)) → log ≡ lines_told m s lines → AnswersByTheTables m s lines log
   answers_by_the_tables s lines log e before i =
       e ∙ ap (λ x. lines_told m x lines) i ∙ lines_are (after_lines m blank before) (sound_lines m blank before tt) lines
+
+  -- ---- the calls of a day
+
+  after_both : (s : Standing V) (a b : List Line) → after_lines m s (a ++ b) ≡ after_lines m (after_lines m s a) b
+  after_both s [] b = refl
+  after_both s (c ∷ a) b = after_both (next_at m s c) a b
+
+  went_on : (P : Fixed V) (h : Held V) (count : ℕ) (x : Result (Fixed V) Fault) (calls : List Call) → IsErr x
+      → (begun (in_day P h) count x ≡ in_day P h) × (unless_begun m x calls ≡ calls)
+  went_on P h count (Ok Q) calls e = absurd (let z : ◌≡◌ {A = ℕ} 0 1 = cc in omega arith)
+  went_on P h count (Err f) calls e = (refl, refl)
+
+  within : (P : Fixed V) (h : Held V) (part : List Line) → GoesOn m P h part → after_lines m (in_day P h) part ≡ in_day P (after m P h (calls_of_day m P h part))
+  within P h [] k = refl
+  within P h (set_up g ∷ part) k =
+      let w = went_on P h g.channels (set_up_checked m h.keypad g) (calls_of_day m P h part) k.0 in
+      ap (λ s. after_lines m s part) w.0 ∙ within P h part k.1 ∙ ap (λ cs. in_day P (after m P h cs)) (sym w.1)
+  within P h (call c ∷ part) k = within P (next m P h c) part k
+
+  pub days_stand_by_calls : (lines : List Line) → DaysStandByCalls m lines
+  days_stand_by_calls lines made before g part rest P e k goes =
+      let s = after_lines m blank before in
+      after_both blank before (set_up g ∷ part)
+      ∙ ap (λ x. after_lines m (begun s g.channels x) part) k
+      ∙ within P (first_day P g.channels) part goes
 
   -- ---- the laws
 

@@ -91,26 +91,28 @@ module _ {V : Type 0} (m : Meaning V) where
 
   -- ---- lines
 
+  -- on a blank sensor
+  abbrev BlankIs : Line → Type 0
+  BlankIs c = (line_told m (sensor_at m blank) c ≡ reply_at m blank c) × (line_made m (sensor_at m blank) c ≡ sensor_at m (next_at m blank c))
+
+  blank_is : (c : Call) → BlankIs (call c)
+  blank_is (sample r room) = (refl, refl)
+  blank_is (request frame room) = (refl, refl)
+  blank_is open_keypad = (refl, refl)
+  blank_is (write_keypad serial j n octets) = (refl, refl)
+  blank_is (close_keypad serial) = (refl, refl)
+  blank_is restart = (refl, refl)
+
   pub told_is : Lawful V m → (s : Standing V) → SoundAt s → (c : Line) → line_told m (sensor_at m s) c ≡ reply_at m s c
   told_is l s k (set_up g) = ap (λ b. set_up_reply (set_up_checked m b g)) (open_is s)
-  told_is l blank k (call (sample r room)) = refl
-  told_is l blank k (call (request frame room)) = refl
-  told_is l blank k (call open_keypad) = refl
-  told_is l blank k (call (write_keypad serial j n octets)) = refl
-  told_is l blank k (call (close_keypad serial)) = refl
-  told_is l blank k (call restart) = refl
+  told_is l blank k (call c) = (blank_is c).0
   told_is l (in_day P h) k (call c) = call_told_is l P h k c
 
   pub made_is : Lawful V m → (s : Standing V) → SoundAt s → (c : Line) → line_made m (sensor_at m s) c ≡ sensor_at m (next_at m s c)
   made_is l s k (set_up g) =
       ap (λ b. made.begun_sensor m (sensor_at m s) g.channels (set_up_checked m b g)) (open_is s)
       ∙ begun_is s g.channels (set_up_checked m (open_at s) g)
-  made_is l blank k (call (sample r room)) = refl
-  made_is l blank k (call (request frame room)) = refl
-  made_is l blank k (call open_keypad) = refl
-  made_is l blank k (call (write_keypad serial j n octets)) = refl
-  made_is l blank k (call (close_keypad serial)) = refl
-  made_is l blank k (call restart) = refl
+  made_is l blank k (call c) = (blank_is c).1
   made_is l (in_day P h) k (call c) = call_made_is l P h k c
 
   pub sound_line : (s : Standing V) (c : Line) → SoundAt s → SoundAt (next_at m s c)

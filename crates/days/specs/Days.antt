@@ -1,5 +1,5 @@
 -- A sensor's days: set-ups stand among its calls, and each that is accepted begins a day.
-use Rattle.std.specs.Prelude.{◌≡◌, ℕ, Bool, false, cond, not, List, [], ◌∷◌, ◌++◌, map, Some, None, Ok, Err, Option, Result}
+use Rattle.std.specs.Prelude.{◌≡◌, ℕ, Bool, false, cond, not, List, [], ◌∷◌, ◌++◌, map, Some, None, Ok, Err, Option, Result, IsErr}
 use Rattle.faults.specs.declared.Fault.{Fault}
 use Rattle.faults.specs.declared.Denial.TheVariants.{Blank, CaptureLength, ChannelCount, NoValue, Range, SetupUnderKeypad}
 use Rattle.faults.specs.Denials.{fault}
@@ -10,7 +10,7 @@ use Rattle.objects.specs.Objects.{from_to}
 use Rattle.sensor.specs.declared.setup.Setup.{Setup}
 use Rattle.sensor.specs.Setups.{lawful_range, scale_octet}
 use Rattle.rules.specs.Calls.{Call, Reply, accepted, denied}
-use Rattle.rules.specs.Rules.{Entry, Fixed, Held, first_day, next, reply, shown}
+use Rattle.rules.specs.Rules.{Entry, Fixed, Held, after, first_day, next, reply, shown}
 
 -- a call, or a set-up with the octets of its range
 pub data Line : Type 0 where
@@ -91,7 +91,7 @@ module _ {V : Type 0} (m : Meaning V) where
   entries_at s (c ∷ cs) = entry_at s c ∷ entries_at (next_at s c) cs
 
   -- an accepted set-up ends the day before it
-  abbrev unless_begun : Result (Fixed V) Fault → List Call → List Call
+  abbrev pub unless_begun : Result (Fixed V) Fault → List Call → List Call
   unless_begun (Ok P) cs = []
   unless_begun (Err f) cs = cs
 
@@ -100,6 +100,21 @@ module _ {V : Type 0} (m : Meaning V) where
   calls_of_day P h [] = []
   calls_of_day P h (set_up g ∷ cs) = unless_begun (set_up_checked h.keypad g) (calls_of_day P h cs)
   calls_of_day P h (call c ∷ cs) = c ∷ calls_of_day P (next m P h c) cs
+
+  -- no set-up among the lines is accepted
+  abbrev pub GoesOn : Fixed V → Held V → List Line → Type 0
+  GoesOn P h [] = Unit {0}
+  GoesOn P h (set_up g ∷ cs) = IsErr (set_up_checked h.keypad g) × GoesOn P h cs
+  GoesOn P h (call c ∷ cs) = GoesOn P (next m P h c) cs
+
+  -- within a day the sensor stands where the calls of the day have led
+  abbrev pub StandsByCalls : Standing V → List Line → Type 0
+  StandsByCalls s lines =
+      (before : List Line) (g : Setup (List ℕ)) (part rest : List Line) (P : Fixed V)
+      → lines ≡ before ++ (set_up g ∷ (part ++ rest))
+      → set_up_checked (open_at (after_lines s before)) g ≡ Ok P
+      → GoesOn P (first_day P g.channels) part
+      → after_lines s (before ++ (set_up g ∷ part)) ≡ in_day P (after m P (first_day P g.channels) (calls_of_day P (first_day P g.channels) part))
 
   -- a law holds of each day of the lines: of what its set-up fixed, the channel count, and the calls of the day
   abbrev pub EachDay : (Fixed V → ℕ → List Call → Type 0) → Standing V → List Line → Type 0

@@ -8,7 +8,7 @@ use Rattle.rules.specs.Settings.{LastWrittenStands}
 use Rattle.rules.specs.Stores.{StoresWithinCaptured}
 use Rattle.rules.specs.Strikes.{ForeignCallsLeaveNoTrace}
 use Rattle.rules.specs.Turns.{TurnsApart}
-use Rattle.days.specs.Days.{EachDay, Line, after_lines, blank, entries_at}
+use Rattle.days.specs.Days.{EachDay, Line, StandsByCalls, after_lines, blank, entries_at}
 use Rattle.days.specs.Devices.{sensor_at}
 
 module _ {V : Type 0} (m : Meaning V) where
@@ -23,6 +23,10 @@ module _ {V : Type 0} (m : Meaning V) where
   -- a law holds of each day of a sensor that takes these lines last, whatever it took before
   abbrev pub OfEachDay : (Fixed V → ℕ → List Call → Type 0) → List Line → Type 0
   OfEachDay Law lines = (before : List Line) → EachDay m Law blank (before ++ lines)
+
+  -- the standing in which the tables answer each line of a day is the one that the laws speak of
+  abbrev pub DaysStandByCalls : List Line → Type 0
+  DaysStandByCalls lines = (before : List Line) → StandsByCalls m blank (before ++ lines)
 
   -- the laws, of a day from its set-up on
   abbrev pub NoForeignTrace : Fixed V → ℕ → List Call → Type 0
