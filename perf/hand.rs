@@ -805,13 +805,6 @@ impl<V: Kind> Sensor<V> {
 
 // The calls of the rows, as perf/core makes them.
 
-enum Call<'a> {
-    Nothing,
-    SetUp(Setup<'a>),
-    Sample(Reading<&'a [u8]>),
-    Request(&'a [u8]),
-}
-
 fn read_setup(octets: &[u8]) -> Option<Setup<'_>> {
     let &[a, b, c, d, channels, scale, capture, s, t, x, y, width, ref ends @ ..] = octets else {
         return None;
@@ -831,23 +824,6 @@ fn read_setup(octets: &[u8]) -> Option<Setup<'_>> {
     })
 }
 
-fn read_row(row: &[u8]) -> Option<(Call<'_>, usize)> {
-    let [what, n, room, octets @ ..] = row else {
-        return None;
-    };
-    let octets = octets.get(..usize::from(*n))?;
-    let call = match *what {
-        1 => Call::SetUp(read_setup(octets)?),
-        2 => Call::Sample(Reading::Value(octets)),
-        3 => Call::Sample(Reading::Below),
-        4 => Call::Sample(Reading::Above),
-        5 => Call::Sample(Reading::NoData),
-        6 => Call::Request(octets),
-        _ => Call::Nothing,
-    };
-    Some((call, usize::from(*room).min(64)))
-}
-
 // The next three are never inlined, so that what a call takes can be counted by their names.
 #[inline(never)]
 fn timed_set_up<V: Kind>(sensor: &mut Sensor<V>, setup: &Setup) -> Result<(), Fault> {
@@ -864,12 +840,23 @@ fn timed_request<V: Kind>(sensor: &mut Sensor<V>, frame: &[u8], out: &mut [u8]) 
     sensor.request(frame, out)
 }
 
-fn perform<V: Kind>(sensor: &mut Sensor<V>, call: Call, out: &mut [u8]) -> [u8; 4] {
-    let reply = match call {
-        Call::Nothing => Ok(0),
-        Call::SetUp(setup) => timed_set_up(sensor, &setup).map(|()| 0),
-        Call::Sample(reading) => timed_sample(sensor, reading, out),
-        Call::Request(frame) => timed_request(sensor, frame, out),
+#[inline(never)]
+fn set_up<V: Kind>(sensor: &mut Sensor<V>, octets: &[u8]) -> Result<usize, Fault> {
+    if let Some(setup) = read_setup(octets) {
+        timed_set_up(sensor, &setup)?;
+    }
+    Ok(0)
+}
+
+fn perform<V: Kind>(sensor: &mut Sensor<V>, what: u8, octets: &[u8], out: &mut [u8]) -> [u8; 4] {
+    let reply = match what {
+        1 => set_up(sensor, octets),
+        2 => timed_sample(sensor, Reading::Value(octets), out),
+        3 => timed_sample(sensor, Reading::Below, out),
+        4 => timed_sample(sensor, Reading::Above, out),
+        5 => timed_sample(sensor, Reading::NoData, out),
+        6 => timed_request(sensor, octets, out),
+        _ => Ok(0),
     };
     match reply {
         Ok(n) => [0, n as u8, 0, 0],
@@ -880,12 +867,19 @@ fn perform<V: Kind>(sensor: &mut Sensor<V>, call: Call, out: &mut [u8]) -> [u8; 
     }
 }
 
+fn parts(row: &[u8]) -> Option<(u8, usize, &[u8])> {
+    let [what, n, room, octets @ ..] = row else {
+        return None;
+    };
+    Some((*what, usize::from(*room).min(64), octets.get(..usize::from(*n))?))
+}
+
 fn make<V: Kind>(sensor: &mut Sensor<V>, rows: &[u8]) -> u32 {
     let mut sum = 0u32;
     let mut out = [0u8; 64];
     for row in rows.chunks_exact(64) {
-        if let Some((call, room)) = read_row(row) {
-            let [denial, n, ..] = perform(sensor, call, &mut out[..room]);
+        if let Some((what, room, octets)) = parts(row) {
+            let [denial, n, ..] = perform(sensor, what, octets, &mut out[..room]);
             let told = u32::from(denial) + u32::from(n) + u32::from(out[3]);
             sum = sum.wrapping_mul(31).wrapping_add(told);
         }
@@ -905,10 +899,10 @@ fn run<V: Kind>(first: &[u8], rows: &[u8], times: u32) -> u32 {
 fn trace<V: Kind>(rows: &[u8], log: &mut [u8]) {
     let mut sensor = Sensor::<V> { device: None };
     for (row, told) in rows.chunks_exact(64).zip(log.chunks_exact_mut(68)) {
-        if let Some((call, room)) = read_row(row) {
+        if let Some((what, room, octets)) = parts(row) {
             let (head, tail) = told.split_at_mut(4);
             tail.fill(0xaa);
-            head.copy_from_slice(&perform(&mut sensor, call, &mut tail[..room]));
+            head.copy_from_slice(&perform(&mut sensor, what, octets, &mut tail[..room]));
         }
     }
 }

@@ -24,6 +24,7 @@ CPU = "x86-64-v2"  # what rt builds for
 KINDS = ["IntegerT16", "IntegerT32", "Float32T"]
 MODULES = ["integer_t16", "integer_t32", "float32_t"]
 MAKERS = ["core", "c", "rust"]
+RUN, ROUNDS = 20_000, 40  # calls of a run that is timed, and how many runs
 SETUP, SAMPLE, BELOW, ABOVE, NO_DATA, REQUEST = range(1, 7)
 
 
@@ -277,7 +278,7 @@ class Case:
         self.first, self.rows, self.empty = (work / f"{part}{kind}-{number}" for part in ("first", "rows", "empty"))
         self.first.write_bytes(first)
         self.rows.write_bytes(rows)
-        self.empty.write_bytes(row(0) * self.calls)
+        self.empty.write_bytes(bytes(octet if at % 64 else 0 for at, octet in enumerate(rows)))
 
     def collected(self, maker, times):
         """The instructions of all calls, and the sum of what they gave."""
@@ -296,16 +297,24 @@ class Case:
             sys.exit(f"{self.kind}, {self.name}: the sums differ: {sums}")
         return counts
 
-    def nanoseconds(self):
-        """The least of some runs, the three in turn, less that of runs with no call in them."""
-        times = 20_000 // self.calls
-        best = {}
-        for _ in range(20):
-            for maker in MAKERS:
-                for rows in (self.rows, self.empty):
-                    took = float(told([self.bench, maker, "run", self.first, rows, times]).stdout.split()[1])
-                    best[maker, rows] = min(best.get((maker, rows), took), took)
-        return {maker: (best[maker, self.rows] - best[maker, self.empty]) / times / self.count for maker in MAKERS}
+    def time(self, best):
+        """Runs each of the three, and the same rows without their calls, and keeps the least time of each."""
+        for maker in MAKERS:
+            for rows in (self.rows, self.empty):
+                took = float(told([self.bench, maker, "run", self.first, rows, RUN // self.calls]).stdout.split()[1])
+                best[maker, rows] = min(best.get((maker, rows), took), took)
+
+    def nanoseconds(self, best):
+        return {maker: (best[maker, self.rows] - best[maker, self.empty]) / (RUN // self.calls) / self.count for maker in MAKERS}
+
+
+def times(cases):
+    """The nanoseconds of each case. Its runs are spread over those of all cases, as a machine is slower at times."""
+    best = [{} for _ in cases]
+    for _ in range(ROUNDS):
+        for case, least in zip(cases, best):
+            case.time(least)
+    return [case.nanoseconds(least) for case, least in zip(cases, best)]
 
 
 def table(benches, work):
@@ -315,8 +324,7 @@ def table(benches, work):
         counts = list(pool.map(Case.instructions, all_cases))
     print("| case | kind | core | C | Rust | core / C | core / Rust | ns core | ns C | ns Rust |")
     print("|---|---|--:|--:|--:|--:|--:|--:|--:|--:|")
-    for case, n in zip(all_cases, counts):
-        ns = case.nanoseconds()
+    for case, n, ns in zip(all_cases, counts, times(all_cases)):
         print(f"| {case.name} | {case.kind} | {n['core']:.0f} | {n['c']:.0f} | {n['rust']:.0f} | {n['core'] / n['c']:.2f} "
               f"| {n['core'] / n['rust']:.2f} | {ns['core']:.1f} | {ns['c']:.1f} | {ns['rust']:.1f} |", flush=True)
     print(f"\nHighest ratio of instructions, core to C: {max(n['core'] / n['c'] for n in counts):.2f}\n")
