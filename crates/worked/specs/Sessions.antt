@@ -1,10 +1,12 @@
--- Worked sessions on one sensor: IntegerT16, one channel, range -100 to 10,000, scale 0, C 1, S 0, D 10,
--- each from set-up.
+-- Worked sessions on a sensor with one channel, range -100 to 10,000, scale 0, C 1, S 0, D 10, each from set-up: all of
+-- IntegerT16, but for the one that says Float32T.
 use Rattle.std.specs.Prelude.{◌≡◌, ℕ, List, [], ◌∷◌, take, replicate, pos, negsuc, None, Ok, Err, Result}
 use Rattle.std.specs.Borrow.{Bor}
 use Rattle.faults.specs.declared.Fault.{Fault}
 use Rattle.faults.specs.Denials.{entry}
+use Rattle.kinds.specs.declared.float32_t.Float32T.{Float32T}
 use Rattle.kinds.specs.declared.integer_t16.IntegerT16.{IntegerT16}
+use Rattle.kinds.specs.Float32T.{floats}
 use Rattle.kinds.specs.IntegerT16.{integer_t16}
 use Rattle.kinds.specs.Integers.{integers}
 use Rattle.kinds.specs.Meaning.{Meaning}
@@ -22,18 +24,24 @@ int16 = integers integer_t16
 abbrev lent : List ℕ → Bor (List ℕ)
 lent octets = record { ref_ptr = (0, 0); now = octets }
 
-abbrev bench_setup : Setup (Bor (List ℕ))
-bench_setup = record {
+abbrev bench_setup : List ℕ → List ℕ → Setup (Bor (List ℕ))
+bench_setup low high = record {
   serial = 7;
   channels = 1;
   scale = pos 0;
   terms = record { capture = 1; spread = 0; distance = 10 };
-  range = record { low = lent (0xff ∷ 0x9c ∷ []); high = lent (0x27 ∷ 0x10 ∷ []) };
+  range = record { low = lent low; high = lent high };
 }
 
--- the sensor after its set-up
+-- the sensor after its set-up, by the octets of -100 and 10,000
+abbrev started : {V : Type 0} → Meaning V → List ℕ → List ℕ → Sensor V
+started m low high = set_up_after m (record { device = None }) (bench_setup low high)
+
 abbrev start : Sensor IntegerT16
-start = set_up_after int16 (record { device = None }) bench_setup
+start = started int16 (0xff ∷ 0x9c ∷ []) (0x27 ∷ 0x10 ∷ [])
+
+abbrev start_float : Sensor Float32T
+start_float = started floats (0xc2 ∷ 0xc8 ∷ 0x00 ∷ 0x00 ∷ []) (0x46 ∷ 0x1c ∷ 0x40 ∷ 0x00 ∷ [])
 
 pub data Call : Type 0 where
   request sample : List ℕ → Call
@@ -52,14 +60,17 @@ written_to (Ok n) octets = done (take n octets)
 written_to (Err f) octets = denied (entry f.denial).number (take 4 octets)
 
 -- the answers to calls, one after the other
+abbrev answers_of : {V : Type 0} → Meaning V → Sensor V → List Call → List Answer
+answers_of m s [] = []
+answers_of m s (request frame ∷ calls) =
+    written_to (request_reply m s frame buffer) (request_buffer m s frame buffer)
+    ∷ answers_of m (request_after m s frame buffer) calls
+answers_of m s (sample octets ∷ calls) =
+    written_to (sample_reply m s (Value (lent octets)) buffer) (sample_buffer m s (Value (lent octets)) buffer)
+    ∷ answers_of m (sample_after m s (Value (lent octets)) buffer) calls
+
 abbrev answers : Sensor IntegerT16 → List Call → List Answer
-answers s [] = []
-answers s (request frame ∷ calls) =
-    written_to (request_reply int16 s frame buffer) (request_buffer int16 s frame buffer)
-    ∷ answers (request_after int16 s frame buffer) calls
-answers s (sample octets ∷ calls) =
-    written_to (sample_reply int16 s (Value (lent octets)) buffer) (sample_buffer int16 s (Value (lent octets)) buffer)
-    ∷ answers (sample_after int16 s (Value (lent octets)) buffer) calls
+answers = answers_of int16
 
 -- a write of 1,000; 10,000 is taken; 10,001 is above the range
 abbrev WritesSP1 : Type 0
@@ -197,6 +208,18 @@ CancelPutsNothingBack =
 abbrev MiddleRoundsDown : Type 0
 MiddleRoundsDown = (v w : IntegerT16) → v.value ≡ negsuc 2 → w.value ≡ pos 0 → (int16.middle v w).value ≡ negsuc 1
 
+-- Float32T: what is not a number is no value; 1000.0 is written, and reads back
+abbrev pub DeniesNotANumber : Type 0
+DeniesNotANumber =
+    answers_of floats start_float (request (0x28 ∷ 0x3c ∷ 0x01 ∷ 0x7f ∷ 0xc0 ∷ 0x00 ∷ 0x00 ∷ 0xaa ∷ [])
+    ∷ request (0x28 ∷ 0x3c ∷ 0x01 ∷ 0x44 ∷ 0x7a ∷ 0x00 ∷ 0x00 ∷ 0x2b ∷ [])
+    ∷ request (0xa4 ∷ 0x3c ∷ 0x01 ∷ 0x99 ∷ [])
+    ∷ [])
+    ≡ denied 17 (0x44 ∷ 0x80 ∷ 0x30 ∷ 0xf4 ∷ [])
+    ∷ done (0x52 ∷ 0x52 ∷ [])
+    ∷ done (0xd6 ∷ 0x44 ∷ 0x7a ∷ 0x00 ∷ 0x00 ∷ 0xe8 ∷ [])
+    ∷ []
+
 -- all of them
 abbrev pub Sessions : Type 0
 Sessions =
@@ -209,3 +232,4 @@ Sessions =
     × StoresTheMiddle
     × CancelPutsNothingBack
     × MiddleRoundsDown
+    × DeniesNotANumber

@@ -1,6 +1,7 @@
 use Rattle.std.proofs.Common.{◌+ℤ◌, refl, ap₂}
 use lib.Signed.{shr_z}
+use Rattle.worked.proofs.Floats.{denies_not_a_number}
 use Rattle.worked.proofs.bench_sessions.Goals as goal
 
 pub returns : goal.returns
-returns c = (refl, refl, refl, refl, refl, refl, refl, refl, λ v w p q. ap₂ (λ a b. shr_z (a +ℤ b) 2) p q)
+returns c = (refl, refl, refl, refl, refl, refl, refl, refl, λ v w p q. ap₂ (λ a b. shr_z (a +ℤ b) 2) p q, denies_not_a_number)

@@ -1,0 +1,8 @@
+-- The session of Float32T, computed on the patterns of its values.
+use Rattle.std.proofs.Common.{refl}
+use Rattle.std.specs.Float.Ieee.{eq, fits, of_bits, of_int, to_bits}
+use Rattle.worked.specs.Sessions.{DeniesNotANumber}
+
+pub denies_not_a_number : DeniesNotANumber
+unfolding eq fits of_bits of_int to_bits
+denies_not_a_number = refl
