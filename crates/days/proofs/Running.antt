@@ -11,7 +11,7 @@ use Rattle.rules.proofs.Laws.{laws}
 use Rattle.days.specs.Days.{EachDay, GoesOn, Line, Standing, begun, blank, call, in_day, set_up, after_lines, calls_of_day, channels_at, entries_at, next_at, open_at, set_up_checked, unless_begun}
 use Rattle.days.specs.Devices.{sensor_at}
 use Rattle.days.specs.Made.{lines_told}
-use Rattle.days.specs.Runs.{AnswersByTheTables, DaysStandByCalls, OfEachDay, NoForeignTrace, StoredWithinCaptured, TurnedApart, WrittenStands}
+use Rattle.days.specs.Runs.{AnswersByTheTables, ContractsGiveTheTables, DaysStandByCalls, OfEachDay, NoForeignTrace, StoredWithinCaptured, TurnedApart, WrittenStands}
 use Rattle.days.proofs.Standings.{SoundAt, counted, made_is, sound_line, sound_lines, told_is}
 
 module _ {V : Type 0} (m : Meaning V) (l : Lawful V m) where
@@ -28,9 +28,12 @@ module _ {V : Type 0} (m : Meaning V) (l : Lawful V m) where
         channels = (ap (λ x. map shown (channels_of x)) made ∙ shows_is (next_at m s c)) i;
       } ∷ (ap (λ x. lines_told m x lines) made ∙ lines_are (next_at m s c) (sound_line m s c k) lines) i
 
+  pub contracts_give_the_tables : (lines : List Line) → ContractsGiveTheTables m lines
+  contracts_give_the_tables lines before = lines_are (after_lines m blank before) (sound_lines m blank before tt) lines
+
   pub answers_by_the_tables : (s : Sensor V) (lines : List Line) (log : List (Entry V)) → log ≡ lines_told m s lines → AnswersByTheTables m s lines log
   answers_by_the_tables s lines log e before i =
-      e ∙ ap (λ x. lines_told m x lines) i ∙ lines_are (after_lines m blank before) (sound_lines m blank before tt) lines
+      e ∙ ap (λ x. lines_told m x lines) i ∙ contracts_give_the_tables lines before
 
   -- ---- the calls of a day
 

@@ -10,6 +10,7 @@ use Rattle.rules.specs.Strikes.{ForeignCallsLeaveNoTrace}
 use Rattle.rules.specs.Turns.{TurnsApart}
 use Rattle.days.specs.Days.{EachDay, Line, StandsByCalls, after_lines, blank, entries_at}
 use Rattle.days.specs.Devices.{sensor_at}
+use Rattle.days.specs.Made.{lines_told}
 
 module _ {V : Type 0} (m : Meaning V) where
   -- wherever the lines that a blank sensor took before have left it, each reply, and each channel's settings, state and signal
@@ -23,6 +24,12 @@ module _ {V : Type 0} (m : Meaning V) where
   -- a law holds of each day of a sensor that takes these lines last, whatever it took before
   abbrev pub OfEachDay : (Fixed V → ℕ → List Call → Type 0) → List Line → Type 0
   OfEachDay Law lines = (before : List Line) → EachDay m Law blank (before ++ lines)
+
+  -- what the contracts of the sensor's calls come to, line by line, is what the tables give, wherever the lines before have led:
+  -- this speaks of no log, so it does not depend on memory
+  abbrev pub ContractsGiveTheTables : List Line → Type 0
+  ContractsGiveTheTables lines =
+      (before : List Line) → lines_told m (sensor_at m (after_lines m blank before)) lines ≡ entries_at m (after_lines m blank before) lines
 
   -- the standing in which the tables answer each line of a day is the one that the laws speak of
   abbrev pub DaysStandByCalls : List Line → Type 0

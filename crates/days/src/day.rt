@@ -1,6 +1,6 @@
 // Calls made on a sensor one after the other, each with its reply and with every channel after it.
 ghost use Rattle.days.specs.Made.{line_entry, line_made, line_told, lines_told, zeros};
-ghost use Rattle.days.specs.Runs.{AnswersByTheTables, DaysStandByCalls, NoForeignTrace, OfEachDay, StoredWithinCaptured, TurnedApart, WrittenStands};
+ghost use Rattle.days.specs.Runs.{AnswersByTheTables, ContractsGiveTheTables, DaysStandByCalls, NoForeignTrace, OfEachDay, StoredWithinCaptured, TurnedApart, WrittenStands};
 ghost use Rattle.days.specs.Tickets.{Kept};
 ghost use Rattle.days.specs.Told.{called, channel_of, entry_told, told};
 ghost use Rattle.sensor.specs.Devices.{channels_of};
@@ -121,14 +121,16 @@ fn close_left<K: Kind>(mut sensor: Sensor<K>, kept: Option<Ticket>)
 // Makes calls on a sensor, set-ups among them, and tells each reply with every channel after it. An operation that is open at
 // the end is closed with its ticket.
 //
-// The first clause equates what is told with the tables, and the second says that within a day these stand where the calls of the
-// day have led. The others are the laws of every day, from its set-up to the next one that is accepted, denied calls included.
+// The first clause equates what is told with the tables. The second says the same of what the contracts of the sensor's calls come
+// to, whether there is memory for a log or not; the third that within a day the tables stand where the calls of the day have led.
+// The others are the laws of every day, from its set-up to the next one that is accepted, denied calls included.
 pub fn run<K: Kind>(
     heap: Global,
     mut sensor: Sensor<K>,
     calls: &[Call],
 ) -> Result<Vec<Entry<K>>, AllocError>
     ensures answers_by_the_tables { IfOk result (λ log. AnswersByTheTables K.meaning sensor (map called calls.now) (map entry_told (vec_items log))) }
+    ensures contracts_give_the_tables { ContractsGiveTheTables K.meaning (map called calls.now) }
     ensures days_stand_by_calls { DaysStandByCalls K.meaning (map called calls.now) }
     ensures foreign_calls_leave_no_trace { OfEachDay K.meaning (NoForeignTrace K.meaning) (map called calls.now) }
     ensures stores_within_captured { OfEachDay K.meaning (StoredWithinCaptured K.meaning) (map called calls.now) }
