@@ -9,12 +9,12 @@ mod session;
 mod timeline;
 
 use anyhow::anyhow;
+use days::bench::BenchSensor;
 use help::HELP;
 use kinds::float32_t::Float32T;
 use kinds::integer_t16::IntegerT16;
 use kinds::integer_t32::IntegerT32;
 use run::{Bench, Tally};
-use sensor::sensor::Sensor;
 use session::{Section, Session};
 use std::io::Read;
 use std::{env, io};
@@ -43,9 +43,9 @@ fn read_task(rt: &HostRuntime) -> anyhow::Result<Task> {
 // any kind fits into memory stayed open.
 fn run_section(bench: &mut Bench, section: &Section) -> io::Result<()> {
     match section.kind {
-        KindName::Int16 => bench.run(Sensor::<IntegerT16>::blank(), section),
-        KindName::Int32 => bench.run(Sensor::<IntegerT32>::blank(), section),
-        KindName::Float32 => bench.run(Sensor::<Float32T>::blank(), section),
+        KindName::Int16 => bench.run(BenchSensor::<IntegerT16>::blank(), section),
+        KindName::Int32 => bench.run(BenchSensor::<IntegerT32>::blank(), section),
+        KindName::Float32 => bench.run(BenchSensor::<Float32T>::blank(), section),
     }
 }
 

@@ -32,11 +32,11 @@ impl fmt::Display for Octets<'_> {
 }
 
 // The word that a script has for a call.
-fn word(call: &Call) -> &'static str {
+fn word(call: &Call<Vec<u8>>) -> &'static str {
     match call {
         Call::SetUp(_) => "setup",
-        Call::Sample(..) => "sample",
-        Call::Request(..) => "request",
+        Call::Sample(_) => "sample",
+        Call::Request(_) => "request",
         Call::OpenKeypad => "open",
         Call::WriteKeypad(..) => "write",
         Call::CloseKeypad(_) => "close",
@@ -72,8 +72,8 @@ impl fmt::Display for Denied<'_> {
 // A call with what it answered.
 #[derive(Clone, Copy)]
 pub(crate) struct Answer<'a> {
-    pub(crate) call: &'a Call,
-    pub(crate) reply: &'a Reply,
+    pub(crate) call: &'a Call<Vec<u8>>,
+    pub(crate) reply: &'a Reply<Vec<u8>>,
 }
 
 impl fmt::Display for Answer<'_> {

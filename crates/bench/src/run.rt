@@ -2,10 +2,10 @@
 use super::printed::{Answer, Fields};
 use super::session::{Section, Step};
 use super::timeline::Timeline;
+use days::bench::BenchSensor;
 use days::call::{Call, Channel, Entry, Reply};
 use days::day;
 use kinds::kind::Kind;
-use sensor::sensor::Sensor;
 use std::{fmt, io};
 
 // How many calls were accepted and denied.
@@ -16,7 +16,7 @@ pub(crate) struct Tally {
 }
 
 impl Tally {
-    fn count(&mut self, reply: &Reply) {
+    fn count(&mut self, reply: &Reply<Vec<u8>>) {
         let calls = match reply {
             Reply::Denied(..) => &mut self.denied,
             _ => &mut self.accepted,
@@ -35,7 +35,7 @@ impl fmt::Display for Tally {
 }
 
 // Whether a call is a set-up that was accepted.
-fn begins_day(call: &Call, reply: &Reply) -> bool {
+fn begins_day(call: &Call<Vec<u8>>, reply: &Reply<Vec<u8>>) -> bool {
     matches!((call, reply), (Call::SetUp(_), Reply::Accepted(_)))
 }
 
@@ -90,7 +90,7 @@ impl Bench<'_> {
     // A call with its entry, and what it changed.
     fn tell<'e, K: Kind>(
         &mut self,
-        call: &Call,
+        call: &Call<Vec<u8>>,
         entry: &'e Entry<K>,
         before: &[Channel<K>],
         timeline: &mut Timeline<'e, K>,
@@ -113,7 +113,11 @@ impl Bench<'_> {
     }
 
     // Takes a sensor through a section.
-    pub(crate) fn run<K: Kind>(&mut self, sensor: Sensor<K>, section: &Section) -> io::Result<()> {
+    pub(crate) fn run<K: Kind>(
+        &mut self,
+        sensor: BenchSensor<K>,
+        section: &Section,
+    ) -> io::Result<()> {
         let log = day::run(self.rt.alloc(), sensor, section.calls.as_slice())?;
         let mut made = section.calls.iter().zip(&log);
         let mut channels: &[Channel<K>] = &[];
@@ -122,10 +126,10 @@ impl Bench<'_> {
             match step {
                 Step::Show => self.show(channels)?,
                 Step::Call => {
-                    let Some((call, entry)) = made.next() else {
+                    let Some((line, entry)) = made.next() else {
                         break;
                     };
-                    self.tell(call, entry, channels, &mut timeline)?;
+                    self.tell(&line.call, entry, channels, &mut timeline)?;
                     channels = entry.channels.as_slice();
                 }
             }

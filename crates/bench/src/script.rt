@@ -4,7 +4,7 @@ ghost use Rattle.words.specs.Words.{octets_told};
 
 use channels::range::Range;
 use channels::reading::Reading;
-use days::call::Call;
+use days::call::{Call, Line as CallLine};
 use sensor::setup::Setup;
 use std::alloc::{AllocError, Global};
 use std::str::FromStr;
@@ -17,7 +17,7 @@ use words::{KindName, Unread};
 pub(crate) enum Line {
     Blank,
     Sensor(KindName),
-    Call(Call),
+    Call(CallLine),
     Show,
 }
 
@@ -153,17 +153,20 @@ fn into_buffer<'a>(rest: &'a str, expected: &'static str) -> Result<(&'a str, u1
     Ok((before.trim(), number(after.trim(), LENGTH_FORM)?))
 }
 
-fn sample(heap: Global, rest: &str) -> Result<Call, Problem> {
+fn sample(heap: Global, rest: &str) -> Result<CallLine, Problem> {
     let (text, length) = into_buffer(rest, SAMPLE_FORM)?;
     let mut words = text.split_whitespace();
     let (Some(word), None) = (words.next(), words.next()) else {
         return Err(Problem::Expected(SAMPLE_FORM));
     };
-    Ok(Call::Sample(reading(heap, word)?, length))
+    Ok(CallLine {
+        call: Call::Sample(reading(heap, word)?),
+        room: length,
+    })
 }
 
 // Octets with free spaces between them, and the response buffer.
-fn request(heap: Global, rest: &str) -> Result<Call, Problem> {
+fn request(heap: Global, rest: &str) -> Result<CallLine, Problem> {
     let (text, length) = into_buffer(rest, REQUEST_FORM)?;
     if text.is_empty() {
         return Err(Problem::Expected(REQUEST_FORM));
@@ -172,7 +175,10 @@ fn request(heap: Global, rest: &str) -> Result<Call, Problem> {
     for word in text.split_whitespace() {
         frame.extend_from_slice(octets(heap, word)?.as_slice())?;
     }
-    Ok(Call::Request(frame, length))
+    Ok(CallLine {
+        call: Call::Request(frame),
+        room: length,
+    })
 }
 
 // The line up to a comment.
@@ -181,7 +187,7 @@ fn uncommented(text: &str) -> &str {
 }
 
 // A ticket's serial number, a channel, a setpoint and octets.
-fn write(heap: Global, rest: &str) -> Result<Call, Problem> {
+fn write(heap: Global, rest: &str) -> Result<Call<Vec<u8>>, Problem> {
     let mut words = rest.split_whitespace();
     let (Some(serial), Some(channel), Some(setpoint), Some(value), None) = (
         words.next(),
@@ -200,12 +206,17 @@ fn write(heap: Global, rest: &str) -> Result<Call, Problem> {
     ))
 }
 
-fn close(rest: &str) -> Result<Call, Problem> {
+fn close(rest: &str) -> Result<Call<Vec<u8>>, Problem> {
     let mut words = rest.split_whitespace();
     let (Some(serial), None) = (words.next(), words.next()) else {
         return Err(Problem::Expected(CLOSE_FORM));
     };
     Ok(Call::CloseKeypad(number(serial, SERIAL_FORM)?))
+}
+
+// A call that is lent no buffer.
+fn unlent(call: Call<Vec<u8>>) -> Line {
+    Line::Call(CallLine { call, room: 0 })
 }
 
 // A word that stands alone.
@@ -220,13 +231,13 @@ fn alone(line: Line, rest: &str, expected: &'static str) -> Result<Line, Problem
 fn by_word(heap: Global, word: &str, rest: &str) -> Result<Line, Problem> {
     match word {
         "sensor" => Ok(Line::Sensor(kind(rest)?)),
-        "setup" => Ok(Line::Call(Call::SetUp(setup(heap, rest)?))),
+        "setup" => Ok(unlent(Call::SetUp(setup(heap, rest)?))),
         "sample" => Ok(Line::Call(sample(heap, rest)?)),
         "request" => Ok(Line::Call(request(heap, rest)?)),
-        "open" => alone(Line::Call(Call::OpenKeypad), rest, "open alone"),
-        "write" => Ok(Line::Call(write(heap, rest)?)),
-        "close" => Ok(Line::Call(close(rest)?)),
-        "restart" => alone(Line::Call(Call::Restart), rest, "restart alone"),
+        "open" => alone(unlent(Call::OpenKeypad), rest, "open alone"),
+        "write" => Ok(unlent(write(heap, rest)?)),
+        "close" => Ok(unlent(close(rest)?)),
+        "restart" => alone(unlent(Call::Restart), rest, "restart alone"),
         "show" => alone(Line::Show, rest, "show alone"),
         _ => Err(Problem::Expected(
             "sensor, setup, sample, request, open, write, close, restart or show",

@@ -1,6 +1,6 @@
 // A whole script: a section for each sensor, with the calls that it is taken through.
 use super::script::{Line, Problem, read_line};
-use days::call::Call;
+use days::call::Line as CallLine;
 use std::alloc::Global;
 use thiserror::Error;
 use words::KindName;
@@ -15,7 +15,7 @@ pub(crate) enum Step {
 #[derive(Drop)]
 pub(crate) struct Section {
     pub(crate) kind: KindName,
-    pub(crate) calls: Vec<Call>,
+    pub(crate) calls: Vec<CallLine>,
     pub(crate) steps: Vec<Step>,
 }
 

@@ -22,8 +22,12 @@ impl<'a, K: Kind> Timeline<'a, K> {
     }
 
     // Takes an entry, if it is of an accepted sample.
-    pub(crate) fn take(&mut self, call: &Call, entry: &'a Entry<K>) -> Result<(), AllocError> {
-        if let (Call::Sample(..), Reply::Accepted(_)) = (call, &entry.reply) {
+    pub(crate) fn take(
+        &mut self,
+        call: &Call<Vec<u8>>,
+        entry: &'a Entry<K>,
+    ) -> Result<(), AllocError> {
+        if let (Call::Sample(_), Reply::Accepted(_)) = (call, &entry.reply) {
             self.samples.push(entry.channels.as_slice())?;
         }
         Ok(())

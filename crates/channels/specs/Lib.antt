@@ -1,4 +1,3 @@
 pub mod Judging
 pub mod Readings
-pub mod Rows
 pub mod Table

@@ -19,7 +19,7 @@ module _ {V : Type 0} (m : Meaning V) where
   shown Above = m.above_substitute
   shown NoData = m.no_data_substitute
 
-  -- process data: the value, the scale octet, the octet of signals
+  -- process data: the octets of the reading, the scale octet, the octet of signals
   abbrev pub block : Reading V → ℕ → ℕ → List ℕ
   block r scale signals = shown r ++ (scale ∷ signals ∷ [])
 

@@ -15,6 +15,10 @@ abbrev pub packed : List Bool → ℕ
 packed [] = 0
 packed (b ∷ bs) = cond b 1 0 + 2 * packed bs
 
+-- a sensor has at most so many channels
+abbrev pub most_channels : ℕ
+most_channels = 8
+
 -- what stands at a place of a list, counted from 0
 abbrev pub nth : {A : Type 0} → List A → ℕ → Option A
 nth [] k = None
@@ -22,9 +26,9 @@ nth (x ∷ xs) zero = Some x
 nth (x ∷ xs) (suc k) = nth xs k
 
 module _ {V : Type 0} where
-  -- the table has eight rows, of which the first `count` are channels
+  -- a table has a row for each channel that there may be, of which the first `count` are channels
   abbrev pub rows_present : Table V → ℕ
-  rows_present t = min t.count 8
+  rows_present t = min t.count most_channels
 
   abbrev pub present : Table V → List (Row V)
   present t = take (rows_present t) t.rows
@@ -50,7 +54,7 @@ module _ {V : Type 0} where
   fresh_row low high = record { sp1 = low; sp2 = high; hysteresis = 0; logic = 0; mode = 1; active = false }
 
   abbrev pub fresh_table : ℕ → V → V → Table V
-  fresh_table count low high = record { rows = replicate 8 (fresh_row low high); count = count }
+  fresh_table count low high = record { rows = replicate most_channels (fresh_row low high); count = count }
 
   -- channels count from 1
   abbrev pub has_channel : Table V → ℕ → Bool

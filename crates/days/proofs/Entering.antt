@@ -1,15 +1,42 @@
 -- Entries, one after the other.
-use Rattle.std.proofs.Common.{◌≡◌, List, [], ◌∷◌, ◌++◌, map, refl, ap}
+use Rattle.std.proofs.Common.{◌≡◌, ℕ, List, [], ◌∷◌, ◌++◌, length, map, take, refl, sym, ap, ◌∙◌}
+use lib.Seq.{take-append_seam}
+use Rattle.kinds.specs.Meaning.{Meaning}
 use Rattle.channels.specs.declared.row.Row.{Row}
-use Rattle.rules.specs.Rules.{shown}
-use Rattle.days.specs.Told.{channel_of, channel_told}
+use Rattle.sensor.specs.declared.sensor.Sensor.{Sensor}
+use Rattle.sensor.specs.Calls.{Call}
+use Rattle.sensor.specs.Rules.{channels_of, entries, entry_of, next, shown}
+use Rattle.days.specs.declared.call.Channel.{Channel}
+use Rattle.days.specs.declared.call.Entry.{Entry}
+use Rattle.days.specs.declared.call.Line.{Line}
+use Rattle.days.specs.Told.{call_of, channel_of, channel_told, entry_told}
 
 -- the channels of an entry
-pub channels_told : {V : Type 0} (rows : List (Row V)) → map channel_told (map channel_of rows) ≡ map shown rows
+channels_told : {V : Type 0} (rows : List (Row V)) → map channel_told (map channel_of rows) ≡ map shown rows
 channels_told [] = refl
 channels_told (r ∷ rows) = ap (λ rest. shown r ∷ rest) (channels_told rows)
 
+pub channels_shown : {V : Type 0} (s t : Sensor V) (channels : List (Channel V)) → channels ≡ map channel_of (channels_of s) → s ≡ t
+    → map channel_told channels ≡ map shown (channels_of t)
+channels_shown s t channels e i = ap (map channel_told) e ∙ channels_told (channels_of s) ∙ ap (λ x. map shown (channels_of x)) i
+
+-- the sensor after a call that is known by another name
+pub next_by_name : {V : Type 0} (m : Meaning V) (s t : Sensor V) (c d : Call) → t ≡ next m s c → c ≡ d → t ≡ next m s d
+next_by_name m s t c d e i = e ∙ ap (next m s) i
+
 -- one entry more
-pub push_told : {A B : Type 0} (f : A → B) (log : List A) (e : A) (rest : List B) → map f (log ++ (e ∷ [])) ++ rest ≡ map f log ++ (f e ∷ rest)
+push_told : {A B : Type 0} (f : A → B) (log : List A) (e : A) (rest : List B) → map f (log ++ (e ∷ [])) ++ rest ≡ map f log ++ (f e ∷ rest)
 push_told f [] e rest = refl
 push_told f (x ∷ log) e rest = ap (λ z. f x ∷ z) (push_told f log e rest)
+
+pub entered : {V : Type 0} (m : Meaning V) (s t : Sensor V) (log pushed : List (Entry V)) (e : Entry V) (line : Line) (left : List Line) → pushed ≡ log ++ (e ∷ [])
+    → entry_told e ≡ entry_of m s (call_of line) → t ≡ next m s (call_of line)
+    → map entry_told pushed ++ entries m t (map call_of left) ≡ map entry_told log ++ entries m s (map call_of (line ∷ left))
+entered m s t log pushed e line left i told new =
+    ap (λ z. map entry_told z ++ entries m t (map call_of left)) i
+    ∙ push_told entry_told log e (entries m t (map call_of left))
+    ∙ (λ j. map entry_told log ++ (told j ∷ entries m (new j) (map call_of left)))
+
+-- what was written to the lent octets of a vector stands in it
+pub written_back : (new rest : List ℕ) (long : ℕ) → length new ≡ long → take long (new ++ rest) ≡ new
+written_back new rest long e = ap (λ n. take n (new ++ rest)) (sym e) ∙ take-append_seam new rest

@@ -1,237 +1,280 @@
--- What the sensor's calls leave of the ticket that is due.
-use Rattle.std.proofs.lemmas.Bool.{false≢true}
-use Rattle.std.proofs.Common.{eqb, eq-eqb, ◌≡◌, ℕ, max, Bool, true, false, cond, not, ltb, List, length, ◌⊎◌, Some, None, Ok, Err, Option, Result, refl, sym, ap, ◌∙◌, subst, arith, ⊎_elim, inl}
+-- What each call of a sensor leaves of the ticket that is due.
+use Rattle.std.proofs.Common.{◌≡◌, ℕ, Bool, true, false, cond, not, ltb, List, ◌∷◌, [], Some, None, Ok, Err, Option, Result, IfOk, refl, sym, ap, ◌∙◌, eqb, eq-eqb}
+use Rattle.std.proofs.lemmas.Bool.{eqb-true, false≢true}
 use Rattle.faults.specs.declared.Fault.{Fault}
 use Rattle.faults.specs.declared.Place.{Place}
-use Rattle.faults.specs.declared.Denial.TheVariants.{ChannelCount, NotOpen, NoValue, OtherSerial, ResponseBuffer, SetupUnderKeypad}
-use Rattle.faults.specs.Denials.{fault, fault_at}
-use Rattle.isdu.specs.declared.Direction.{Direction}
-use Rattle.isdu.specs.declared.Direction.TheVariants.{Read, Write}
+use Rattle.faults.specs.declared.Denial.TheVariants.{AlreadyOpen, BufferTooShort, CaptureLength, ChannelCount, NotOpen, OtherSerial, Range, ResponseBuffer, TeachRunning}
+use Rattle.faults.specs.Denials.{fault, then}
 use Rattle.isdu.specs.Decoding.{decoded}
 use Rattle.isdu.specs.Requests.{Asked}
 use Rattle.kinds.specs.Meaning.{Meaning}
+use Rattle.channels.specs.declared.range.Range as Ranges
 use Rattle.channels.specs.declared.reading.Reading.{Reading}
-use Rattle.channels.specs.declared.reading.Reading.TheVariants.{Value, Below, Above, NoData}
-use Rattle.channels.specs.declared.row.Row.{Row}
-use Rattle.channels.specs.Readings.{block_length}
-use Rattle.channels.specs.Table.{row_at}
+use Rattle.channels.specs.Readings.{block_length, counted}
+use Rattle.channels.specs.Table.{most_channels}
 use Rattle.teach.specs.declared.teaching.Store.{Store}
-use Rattle.teach.specs.declared.teaching.Teach.{Teach}
-use Rattle.teach.specs.Teaching.{fed_store, fed_teach, taken_reply, taken_teach}
-use Rattle.objects.specs.declared.object.Object.{Object}
-use Rattle.objects.specs.declared.object.Object.TheVariants.{SystemCommand, TeachSelect, TeachResult, Setpoints, Configuration}
+use Rattle.teach.specs.Teaching.{is_idle}
+use Rattle.objects.specs.declared.access.Access.{Access}
+use Rattle.objects.specs.declared.access.Access.TheVariants.{Read, Write}
 use Rattle.objects.specs.Objects.{access_checked, from_to, place_of}
-use Rattle.objects.specs.Writes.{configuration_written, setpoints_written, single, then}
-use Rattle.sensor.specs.declared.setup.Setup.{Setup}
-use Rattle.sensor.specs.Access as access
-use Rattle.sensor.specs.Devices as devices
-use Rattle.sensor.specs.Requests as requests
-use Rattle.sensor.specs.Restarts.{restart_after, restarted}
-use Rattle.sensor.specs.Samples.{after_by, counted_in, fed_device, judged_device, sampled}
-use Rattle.sensor.specs.Setups.{keypad_open}
-use Rattle.rules.specs.Rules.{Fixed, reading_of}
-use Rattle.days.specs.Days.{ends_checked, set_up}
-use Rattle.days.specs.Made.{begun_sensor, line_made, sample_made}
 use Rattle.sensor.specs.declared.device.Device.{Device}
 use Rattle.sensor.specs.declared.keypad.Ticket.{Ticket}
 use Rattle.sensor.specs.declared.keypad.Unclosed.{Unclosed}
 use Rattle.sensor.specs.declared.sensor.Sensor.{Sensor}
-use Rattle.sensor.specs.Access.{device_or}
-use Rattle.sensor.specs.Calls.{left_by, outcome, outcome_by}
-use Rattle.sensor.specs.Keypad.{close_after, close_reply, closed, closed_or, keypad_checked, keypad_write_after, keypad_written, open_after, open_reply, opened, ticket_of, ticket_or, with_keypad}
-use Rattle.days.specs.Tickets.{Kept, due, due_from}
-
-module _ {V : Type 0} where
-  abbrev IsDenied : Result (Device V) Fault → Type 0
-  IsDenied (Ok d) = ⊥
-  IsDenied (Err f) = Unit {0}
-
-  -- a denied call changes nothing
-  still : (call : Device V → Result (Device V) Fault) (o : Option (Device V)) → IsDenied (outcome_by call o) → left_by call o ≡ o
-  still call None h = refl
-  still call (Some d) h = go (call d) h
-    where
-      go : (x : Result (Device V) Fault) → IsDenied x → Some (device_or d x) ≡ Some d
-      go (Ok e) k = absurd k
-      go (Err f) k = refl
-
-  unopened : (x : Result (Device V) Fault) (f : Fault) → Err f ≡ ticket_or x → IsDenied x
-  unopened (Ok d) f e = absurd (let z : ◌≡◌ {A = ℕ} 0 1 = cc in omega arith)
-  unopened (Err g) f e = tt
-
-  unclosed : (t : Ticket) (x : Result (Device V) Fault) (u : Unclosed) → Err u ≡ closed_or t x → IsDenied x
-  unclosed t (Ok d) u e = absurd (let z : ◌≡◌ {A = ℕ} 0 1 = cc in omega arith)
-  unclosed t (Err g) u e = tt
-
-  pub open_denied : (s : Sensor V) (f : Fault) → Err f ≡ open_reply s → open_after s ≡ s
-  open_denied s f e = ap (λ d. record { device = d }) (still opened s.device (unopened (outcome opened s) f e))
-
-  pub close_denied : (s : Sensor V) (t : Ticket) (u : Unclosed) → Err u ≡ close_reply s t → close_after s t ≡ s
-  close_denied s t u e = ap (λ d. record { device = d }) (still (closed t) s.device (unclosed t (outcome (closed t) s) u e))
-
-  -- what is kept for a sensor is kept for one that is no other
-  pub kept_still : (s t : Sensor V) (kept : Option Ticket) → t ≡ s → Kept s kept → Kept t kept
-  kept_still s t kept e k = subst (λ x. Kept x kept) (sym e) k
+use Rattle.sensor.specs.declared.setup.Setup.{Setup}
+use Rattle.sensor.specs.Answers.{returned, ticketed}
+use Rattle.sensor.specs.Calls.{Call, set_up, sample, request, open_keypad, write_keypad, close_keypad, restart, Act, starts, opens, closes, to_close, to_open, to_sample, to_write}
+use Rattle.sensor.specs.Devices.{setpoint_setting}
+use Rattle.sensor.specs.Keypad.{keypad_checked, serial_of, ticket_of}
+use Rattle.sensor.specs.Requests.{access_asked, asked_of, request_asked, write_asked}
+use Rattle.sensor.specs.Rules.{carried, checked, checked_by, device_by, keypad_open, next, next_by, serial}
+use Rattle.sensor.specs.Samples.{reading_of, sample_asked}
+use Rattle.sensor.specs.Setups.{ends_checked, fresh_device, lawful_range, range_checked, set_up_checked}
+use Rattle.sensor.proofs.Orders.{Writing, write_writes}
+use Rattle.sensor.proofs.Starting.{denied_next, set_up_is}
+use Rattle.days.specs.Kept.{TakesBack, due, due_from}
 
 some_ticket : (t u : Ticket) → Some t ≡ Some u → t ≡ u
 some_ticket t u e = cc
 
--- ---- the calls that give and take no ticket
+unclosed_same : (u v : Unclosed) → ◌≡◌ {A = Result (Unit {0}) Unclosed} (Err u) (Err v) → u ≡ v
+unclosed_same u v e = cc
 
-module _ {V : Type 0} where
-  abbrev device_due : Device V → Option Ticket
-  device_due d = due_from (Some d)
+module _ {V : Type 0} (m : Meaning V) where
+  -- ---- calls that leave it
 
-  -- what a write comes to has the ticket due that the device had
-  abbrev Keeps : Device V → Result (Device V) Fault → Type 0
-  Keeps d (Ok e) = device_due e ≡ device_due d
-  Keeps d (Err f) = Unit {0}
+  -- what these calls do
+  abbrev Leaves : Act V → Type 0
+  Leaves (starts e) = ⊥
+  Leaves opens = ⊥
+  Leaves closes = ⊥
+  Leaves a = Unit {0}
 
-  stored_keeps : (d : Device V) (s : Option (Store V)) → device_due (devices.stored d s) ≡ device_due d
-  stored_keeps d None = refl
-  stored_keeps d (Some s) = refl
+  left_by : (o : Option (Device V)) (x : Result (Act V) Fault) → IfOk x Leaves → due_from (next_by m o x) ≡ due_from o
+  left_by None (Err f) h = refl
+  left_by None (Ok (starts e)) h = absurd h
+  left_by None (Ok a) h = refl
+  left_by (Some d) (Err f) h = refl
+  left_by (Some d) (Ok (starts e)) h = absurd h
+  left_by (Some d) (Ok opens) h = absurd h
+  left_by (Some d) (Ok closes) h = absurd h
+  left_by (Some d) (Ok a) h = refl
 
-  module _ (m : Meaning V) where
-    -- ---- samples
+  sample_leaves : (d : Device V) (o : Option (Reading V)) (room : ℕ) → IfOk (carried m d (sample_asked m d o room)) Leaves
+  sample_leaves d None room = tt
+  sample_leaves d (Some r) room = go (ltb room (block_length m))
+    where
+      go : (b : Bool) → IfOk (carried m d (cond b (Err (fault BufferTooShort)) (Ok (to_sample (counted m d.range.low d.range.high r))))) Leaves
+      go true = tt
+      go false = tt
 
-    fed_keeps : (d : Device V) (r : Reading V) → device_due (fed_device m d r) ≡ device_due d
-    fed_keeps d (Value v) = stored_keeps (devices.with_teach d (fed_teach m d.terms d.teach v)) (fed_store m d.terms d.teach v)
-    fed_keeps d Below = refl
-    fed_keeps d Above = refl
-    fed_keeps d NoData = refl
+  writing_leaves : (x : Result (Act V) Fault) → IfOk x Writing → IfOk x Leaves
+  writing_leaves (Err f) h = tt
+  writing_leaves (Ok (starts e)) h = h
+  writing_leaves (Ok opens) h = h
+  writing_leaves (Ok closes) h = h
+  writing_leaves (Ok a) h = tt
 
-    sampled_by : (d : Device V) (r : Reading V) (b : Bool) → device_due (cond b d (sampled m d r)) ≡ device_due d
-    sampled_by d r true = refl
-    sampled_by d r false = fed_keeps (judged_device m d r) (counted_in m d r)
+  access_leaves : (d : Device V) (place : Place) (x : Result (Access (List ℕ)) Fault) → IfOk (carried m d (then x (access_asked m d place))) Leaves
+  access_leaves d place (Err f) = tt
+  access_leaves d place (Ok (Read shown)) = tt
+  access_leaves d place (Ok (Write w)) = writing_leaves (carried m d (write_asked m d place w)) (write_writes m d place w)
 
-    sample_keeps : (o : Option (Device V)) (r : Option (Reading V)) (buffer : List ℕ) → due_from (after_by m o r buffer) ≡ due_from o
-    sample_keeps None r buffer = refl
-    sample_keeps (Some d) None buffer = refl
-    sample_keeps (Some d) (Some r) buffer = sampled_by d r (ltb (length buffer) (block_length m))
+  request_leaves : (d : Device V) (frame : List ℕ) (room : ℕ) → IfOk (carried m d (request_asked m d frame room)) Leaves
+  request_leaves d frame room = go (ltb room 16) (decoded frame)
+    where
+      go : (b : Bool) (a : Result Asked Fault) → IfOk (carried m d (cond b (Err (fault ResponseBuffer)) (then a (asked_of m d)))) Leaves
+      go true a = tt
+      go false (Err f) = tt
+      go false (Ok a) = access_leaves d (place_of a) (access_checked m d.channels d.keypad a)
 
-    -- ---- writes
+  write_leaves : (d : Device V) (k : ℕ) (x : Result (Store V) Fault) → IfOk (carried m d (then x (λ s. Ok (to_write k (setpoint_setting s.setpoint s.value ∷ []))))) Leaves
+  write_leaves d k (Err f) = tt
+  write_leaves d k (Ok s) = tt
 
-    settled_keeps : (d : Device V) (t : Teach V) (x : Result (Option (Store V)) Fault) → Keeps d (access.settled_by d t x)
-    settled_keeps d t (Ok s) = stored_keeps (devices.with_teach d t) s
-    settled_keeps d t (Err f) = tt
+  -- ---- a set-up: it meets no open operation, and leaves none
 
-    octet_keeps : (d : Device V) (f : ℕ → Result (Device V) Fault) (o : Option ℕ) → ((n : ℕ) → Keeps d (f n)) → Keeps d (access.octet_written d f o)
-    octet_keeps d f None h = refl
-    octet_keeps d f (Some n) h = h n
+  abbrev NoneOpen : Bool → Device V → Type 0
+  NoneOpen keypad e = (keypad ≡ false) × (e.keypad ≡ false)
 
-    selected_keeps : (d : Device V) (f : Fault) (n : ℕ) (b : Bool) → Keeps d (cond b (Err f) (Ok (access.with_selection d n)))
-    selected_keeps d f n true = tt
-    selected_keeps d f n false = refl
+  set_up_closed : (keypad : Bool) (g : Setup (List ℕ)) → IfOk (set_up_checked m keypad g) (NoneOpen keypad)
+  set_up_closed true g = tt
+  set_up_closed false g = by_count (not (from_to 1 most_channels g.channels)) (ends_checked m (m.read g.range.low) (m.read g.range.high))
+    where
+      by_range : (a b : Bool) (range : Ranges.Range V) → IfOk (cond a (Err (fault Range)) (cond b (Err (fault CaptureLength)) (Ok (fresh_device g range)))) (NoneOpen false)
+      by_range true b range = tt
+      by_range false true range = tt
+      by_range false false range = (refl, refl)
 
-    put_keeps : (d : Device V) (k : ℕ) (x : Result (Row V) Fault) → Keeps d (access.row_put d k x)
-    put_keeps d k (Ok r) = refl
-    put_keeps d k (Err f) = tt
+      by_count : (b : Bool) (x : Result (Ranges.Range V) Fault) → IfOk (cond b (Err (fault ChannelCount)) (then x (range_checked m g))) (NoneOpen false)
+      by_count true x = tt
+      by_count false (Err f) = tt
+      by_count false (Ok range) = by_range (not (lawful_range m range)) (not (from_to 1 64 g.terms.capture)) range
 
-    row_keeps : (d : Device V) (k : ℕ) (f : Row V → Result (Row V) Fault) (o : Option (Row V)) → Keeps d (access.row_written d k f o)
-    row_keeps d k f None = refl
-    row_keeps d k f (Some r) = put_keeps d k (f r)
+  none_due : (o : Option (Device V)) → keypad_open (record { device = o }) ≡ false → due_from o ≡ None
+  none_due None e = refl
+  none_due (Some d) e = ap (λ (b : Bool). cond b (Some (ticket_of d.serial)) None) e
 
-    written_keeps : (d : Device V) (place : Place) (o : Object) (octets : List ℕ) → Keeps d (access.written m d place o octets)
-    written_keeps d place SystemCommand octets =
-        octet_keeps d (access.commanded m d place) (single octets)
-        (λ code. settled_keeps d (taken_teach m d.terms place d.teach code) (taken_reply m d.terms place d.teach code))
-    written_keeps d place TeachSelect octets =
-        octet_keeps d (access.selected_by d place) (single octets)
-        (λ n. selected_keeps d (fault_at NoValue place) (max n 1) (access.past_count d n))
-    written_keeps d place TeachResult octets = refl
-    written_keeps d place (Setpoints k) octets = row_keeps d k (λ r. setpoints_written m d.range.low d.range.high place r octets) (row_at d.channels k)
-    written_keeps d place (Configuration k) octets = row_keeps d k (λ r. configuration_written place r octets) (row_at d.channels k)
+  set_up_left : (o : Option (Device V)) (y : Result (Device V) Fault) → IfOk y (NoneOpen (keypad_open (record { device = o })))
+      → due_from (next_by m o (then y (λ e. Ok (starts e)))) ≡ due_from o
+  set_up_left None (Err f) h = refl
+  set_up_left (Some d) (Err f) h = refl
+  set_up_left None (Ok e) h = none_due (Some e) h.1
+  set_up_left (Some d) (Ok e) h = none_due (Some e) h.1 ∙ sym (none_due (Some d) h.0)
 
-    -- ---- requests
+  -- ---- every call but an opening and a closing
 
-    write_keeps : (d : Device V) (x : Result (Device V) Fault) → Keeps d x → device_due (requests.write_answered d x).device ≡ device_due d
-    write_keeps d (Ok e) h = h
-    write_keeps d (Err f) h = refl
+  abbrev pub GivesAndTakesNone : Call → Type 0
+  GivesAndTakesNone open_keypad = ⊥
+  GivesAndTakesNone (close_keypad serial) = ⊥
+  GivesAndTakesNone c = Unit {0}
 
-    object_keeps : (direction : Direction) (d : Device V) (a : Asked) (o : Object) → device_due (requests.object_answered m direction d a o).device ≡ device_due d
-    object_keeps Read d a o = refl
-    object_keeps Write d a o = write_keeps d (access.written m d (place_of a) o a.octets) (written_keeps d (place_of a) o a.octets)
+  due_by : (o : Option (Device V)) (c : Call) → GivesAndTakesNone c → due_from (next_by m o (checked_by m o c)) ≡ due_from o
+  unfolding checked
+  due_by o (set_up g) h =
+      let keypad = keypad_open (record { device = o }) in
+      ap (λ x. due_from (next_by m o x)) (set_up_is m (record { device = o }) g) ∙ set_up_left o (set_up_checked m keypad g) (set_up_closed keypad g)
+  due_by o open_keypad h = absurd h
+  due_by o (close_keypad serial) h = absurd h
+  due_by None c h = refl
+  due_by (Some d) (sample r room) h = left_by (Some d) (checked_by m (Some d) (sample r room)) (sample_leaves d (reading_of m r) room)
+  due_by (Some d) (request frame room) h = left_by (Some d) (checked_by m (Some d) (request frame room)) (request_leaves d frame room)
+  due_by (Some d) (write_keypad serial k n octets) h =
+      left_by (Some d) (checked_by m (Some d) (write_keypad serial k n octets)) (write_leaves d k (keypad_checked m d serial k n octets))
+  due_by (Some d) restart h = refl
 
-    access_keeps : (d : Device V) (a : Asked) (x : Result Object Fault) → device_due (requests.access_answered m d a x).device ≡ device_due d
-    access_keeps d a (Ok o) = object_keeps a.direction d a o
-    access_keeps d a (Err f) = refl
+  -- a ticket that is kept stays due
+  pub stays : (s t : Sensor V) (kept : Option Ticket) (c : Call) → GivesAndTakesNone c → kept ≡ due s → t ≡ next m s c → kept ≡ due t
+  unfolding checked
+  stays s t kept c h k e = k ∙ sym (due_by s.device c h) ∙ ap due (sym e)
 
-    frame_keeps : (d : Device V) (x : Result Asked Fault) → device_due (requests.frame_answered m d x).device ≡ device_due d
-    frame_keeps d (Ok a) = access_keeps d a (access_checked m d.channels d.keypad a)
-    frame_keeps d (Err f) = refl
+  -- ---- openings
 
-    answered_by : (d : Device V) (x : Result Asked Fault) (b : Bool) → device_due (cond b (requests.denies d (fault ResponseBuffer)) (requests.frame_answered m d x)).device ≡ device_due d
-    answered_by d x true = refl
-    answered_by d x false = frame_keeps d x
+  -- an opening that is accepted meets no ticket that is due, and gives the one that then is
+  open_by : (d : Device V) (t : Ticket) (a : Bool) → d.keypad ≡ a
+      → Ok t ≡ ticketed d.serial (carried m d (cond a (Err (fault AlreadyOpen)) (Ok to_open)))
+      → (due_from (Some d) ≡ None) × (Some t ≡ due_from (Some (device_by m d (carried m d (cond a (Err (fault AlreadyOpen)) (Ok to_open))))))
+  open_by d t true i e = cc
+  open_by d t false i e = go (is_idle d.teach.state) e
+    where
+      go : (b : Bool) → Ok t ≡ ticketed {V = V} d.serial (cond b (Ok opens) (Err (fault TeachRunning)))
+          → (due_from (Some d) ≡ None) × (Some t ≡ due_from (Some (device_by m d (cond b (Ok opens) (Err (fault TeachRunning))))))
+      go true e = (none_due (Some d) i, cc)
+      go false e = cc
 
-    request_keeps : (o : Option (Device V)) (frame buffer : List ℕ) → due_from (requests.request_after_by m o frame buffer) ≡ due_from o
-    request_keeps None frame buffer = refl
-    request_keeps (Some d) frame buffer = answered_by d (decoded frame) (ltb (length buffer) 16)
+  open_from : (o : Option (Device V)) (n : ℕ) (t : Ticket) → n ≡ serial (record { device = o }) → Ok t ≡ ticketed n (checked_by m o open_keypad)
+      → (due_from o ≡ None) × (Some t ≡ due_from (next_by m o (checked_by m o open_keypad)))
+  open_from None n t i e = cc
+  open_from (Some d) n t i e = open_by d t d.keypad refl (e ∙ ap (λ k. ticketed k (checked_by m (Some d) open_keypad)) i)
 
-    -- ---- keypad writes and restarts
+  pub opening : (s : Sensor V) (t : Ticket) → Ok t ≡ ticketed (serial s) (checked m s open_keypad)
+      → (due s ≡ None) × (Some t ≡ due (next m s open_keypad))
+  unfolding checked
+  opening s t e = open_from s.device (serial s) t refl e
 
-    call_keeps : (call : Device V → Result (Device V) Fault) (o : Option (Device V)) → ((d : Device V) → Keeps d (call d)) → due_from (left_by call o) ≡ due_from o
-    call_keeps call None h = refl
-    call_keeps call (Some d) h = go (call d) (h d)
-      where
-        go : (x : Result (Device V) Fault) → Keeps d x → device_due (device_or d x) ≡ device_due d
-        go (Ok e) k = k
-        go (Err f) k = refl
+  -- a call that is denied leaves the sensor, with what is due
+  denied : (s t : Sensor V) (kept : Option Ticket) (c : Call) (f : Fault) → kept ≡ due s → checked m s c ≡ Err f → t ≡ next m s c → kept ≡ due t
+  denied s t kept c f k e i = k ∙ ap due_from (denied_next m s.device f ∙ ap (next_by m s.device) (sym e)) ∙ ap due (sym i)
 
-    keypad_keeps : (d : Device V) (k : ℕ) (x : Result (Store V) Fault) → Keeps d (then x (λ s. Ok (devices.with_channels d (devices.with_stored d.channels k s.setpoint s.value))))
-    keypad_keeps d k (Ok s) = refl
-    keypad_keeps d k (Err f) = tt
+  unticketed : (n : ℕ) (x : Result (Act V) Fault) (f : Fault) → Err f ≡ ticketed n x → x ≡ Err f
+  unticketed n (Ok a) f e = cc
+  unticketed n (Err g) f e = cc
 
-    -- a ticket that is due stays due
-    pub due_sample : (s : Sensor V) (r : Reading (List ℕ)) (buffer : List ℕ) → due (sample_made m s r buffer) ≡ due s
-    due_sample s r buffer = sample_keeps s.device (reading_of m r) buffer
+  pub not_opened : (s t : Sensor V) (kept : Option Ticket) (f : Fault) → kept ≡ due s → Err f ≡ ticketed (serial s) (checked m s open_keypad)
+      → t ≡ next m s open_keypad → kept ≡ due t
+  not_opened s t kept f k e i = denied s t kept open_keypad f k (unticketed (serial s) (checked m s open_keypad) f e) i
 
-    pub due_request : (s : Sensor V) (frame buffer : List ℕ) → due (requests.request_after m s frame buffer) ≡ due s
-    due_request s frame buffer = request_keeps s.device frame buffer
+  -- ---- closings
 
-    pub due_write : (s : Sensor V) (t : Ticket) (k n : ℕ) (octets : List ℕ) → due (keypad_write_after m s t k n octets) ≡ due s
-    due_write s t k n octets = call_keeps (keypad_written m t k n octets) s.device (λ d. keypad_keeps d k (keypad_checked m t k n octets d))
+  -- what a closing comes to, by whether its ticket bears the serial number and whether an operation is open
+  abbrev closing_by : Device V → Bool → Bool → Result (Act V) Fault
+  closing_by d a b = carried m d (then (cond (not a) (Err (fault OtherSerial)) (cond (not b) (Err (fault NotOpen)) (Ok (tt {0})))) (λ _. Ok to_close))
 
-    pub due_restart : (s : Sensor V) → due (restart_after s) ≡ due s
-    due_restart s = call_keeps restarted s.device (λ d. refl)
+  -- a sensor takes back the ticket that is due, which bears its serial number
+  takes_back_by : (d : Device V) (t : Ticket) (b : Bool) → d.keypad ≡ b → Some t ≡ cond b (Some (ticket_of d.serial)) None
+      → (checked_by m (Some d) (close_keypad (serial_of t)) ≡ Ok closes) × (serial_of t ≡ d.serial)
+  takes_back_by d t false i e = cc
+  takes_back_by d t true i e =
+      let same = some_ticket t (ticket_of d.serial) e in
+      let n : serial_of t ≡ d.serial = ap serial_of same in (
+        ap (λ k. checked_by m (Some d) (close_keypad k)) n ∙ go (eqb d.serial d.serial) d.keypad (eq-eqb d.serial d.serial refl) i,
+        n,
+      )
+    where
+      go : (a b : Bool) → a ≡ true → b ≡ true → closing_by d a b ≡ Ok closes
+      go true true p q = refl
+      go false b p q = absurd (false≢true p)
+      go true false p q = absurd (false≢true q)
 
-    -- ---- set-ups
+  takes_back_from : (o : Option (Device V)) (t : Ticket) → Some t ≡ due_from o
+      → (checked_by m o (close_keypad (serial_of t)) ≡ Ok closes) × (serial_of t ≡ serial (record { device = o }))
+  takes_back_from None t e = cc
+  takes_back_from (Some d) t e = takes_back_by d t d.keypad refl e
 
-    none_due : (o : Option (Device V)) → keypad_open (record { device = o }) ≡ false → due_from o ≡ None
-    none_due None e = refl
-    none_due (Some d) e = ap (λ (b : Bool). cond b (Some (ticket_of d.serial)) None) e
+  pub takes_back : (s : Sensor V) (t : Ticket) → Some t ≡ due s → TakesBack m s (serial_of t) × (serial_of t ≡ serial s)
+  unfolding checked
+  takes_back s t e = takes_back_from s.device t e
 
-    -- an accepted set-up meets no open operation, and leaves none
-    begun_kept : (s : Sensor V) (count : ℕ) (kept : Option Ticket) (b : Bool) (x : Result (Fixed V) Fault) → keypad_open s ≡ b → Kept s kept → Kept (begun_sensor m s count (cond b (Err (fault SetupUnderKeypad)) x)) kept
-    begun_kept s count kept true x e k = k
-    begun_kept s count kept false (Err f) e k = k
-    begun_kept s count kept false (Ok P) e k = inl (⊎_elim (λ i. i) (λ i. i ∙ none_due s.device e) k)
+  not_refused : (t : Ticket) (x : Result (Act V) Fault) (u : Unclosed) → x ≡ Ok closes → Err u ≡ returned t x → ⊥
+  not_refused t (Ok a) u i e = cc
+  not_refused t (Err f) u i e = cc
 
-    pub kept_set_up : (s : Sensor V) (g : Setup (List ℕ)) (kept : Option Ticket) → Kept s kept → Kept (line_made m s (set_up g)) kept
-    kept_set_up s g kept k =
-        let rest = cond (not (from_to 1 8 g.channels)) (Err (fault ChannelCount)) (ends_checked m g (m.read g.range.low) (m.read g.range.high)) in
-        begun_kept s g.channels kept (keypad_open s) rest refl k
+  pub closes_with_its_own : (s : Sensor V) (t : Ticket) (u : Unclosed) → Some t ≡ due s → Err u ≡ returned t (checked m s (close_keypad (serial_of t))) → ⊥
+  closes_with_its_own s t u k e = not_refused t (checked m s (close_keypad (serial_of t))) u (takes_back s t k).0 e
 
-  -- what is kept for a sensor may be kept for one that has the same ticket due
-  pub kept_due : (s t : Sensor V) (kept : Option Ticket) → due t ≡ due s → Kept s kept → Kept t kept
-  kept_due s t kept e k = subst (λ x. (kept ≡ None) ⊎ (kept ≡ x)) (sym e) k
+  -- a closing that is accepted takes the ticket that is due, and leaves none
+  close_by : (d : Device V) (t : Ticket) (a b : Bool) → eqb d.serial (serial_of t) ≡ a → d.keypad ≡ b
+      → Ok tt ≡ returned t (closing_by d a b)
+      → (due_from (Some d) ≡ Some (ticket_of (serial_of t)))
+      × (None ≡ due_from (Some (device_by m d (closing_by d a b))))
+  close_by d t false b i j e = cc
+  close_by d t true false i j e = cc
+  close_by d t true true i j e = (
+    ap (λ (b : Bool). cond b (Some (ticket_of d.serial)) None) j ∙ ap (λ n. Some (ticket_of n)) (eqb-true d.serial (serial_of t) i),
+    refl,
+  )
 
-  -- the sensor takes a ticket that is kept for it
-  refused_by : (d : Device V) (t : Ticket) (u : Unclosed) (a b : Bool) → a ≡ true → b ≡ true → Err u ≡ closed_or t (then (cond (not a) (Err (fault OtherSerial)) (cond (not b) (Err (fault NotOpen)) (Ok (tt {0})))) (λ _. Ok (with_keypad d false))) → ⊥
-  refused_by d t u true true e i k = let z : ◌≡◌ {A = ℕ} 0 1 = cc in omega arith
-  refused_by d t u false b e i k = false≢true e
-  refused_by d t u true false e i k = false≢true i
+  close_from : (o : Option (Device V)) (t : Ticket) → Ok tt ≡ returned t (checked_by m o (close_keypad (serial_of t)))
+      → (due_from o ≡ Some (ticket_of (serial_of t))) × (None ≡ due_from (next_by m o (checked_by m o (close_keypad (serial_of t)))))
+  close_from None t e = cc
+  close_from (Some d) t e = close_by d t (eqb d.serial (serial_of t)) d.keypad refl refl e
 
-  refused_not : (d : Device V) (t : Ticket) (u : Unclosed) → t ≡ ticket_of d.serial → d.keypad ≡ true → Err u ≡ closed_or t (closed t d) → ⊥
-  refused_not d t u e o k = refused_by d t u (eqb d.serial t.serial) d.keypad (eq-eqb d.serial t.serial (ap (λ (x : Ticket). x.serial) (sym e))) o k
+  pub closing : (s : Sensor V) (t : Ticket) → Ok tt ≡ returned t (checked m s (close_keypad (serial_of t)))
+      → (due s ≡ Some (ticket_of (serial_of t))) × (None ≡ due (next m s (close_keypad (serial_of t))))
+  unfolding checked
+  closing s t e = close_from s.device t e
 
-  closes_by : (d : Device V) (t : Ticket) (u : Unclosed) (b : Bool) → d.keypad ≡ b → Some t ≡ cond b (Some (ticket_of d.serial)) None → Err u ≡ closed_or t (closed t d) → ⊥
-  closes_by d t u true e i k = refused_not d t u (some_ticket t (ticket_of d.serial) i) e k
-  closes_by d t u false e i k = absurd (let z : ◌≡◌ {A = ℕ} 0 1 = cc in omega arith)
+  -- which bears the serial number that the closing was asked for
+  pub closed_serial : (s : Sensor V) (t own : Ticket) (n : ℕ) → serial_of t ≡ n → Some own ≡ due s → Ok tt ≡ returned t (checked m s (close_keypad (serial_of t)))
+      → n ≡ serial_of own
+  closed_serial s t own n i k e = sym (ap serial_of (some_ticket own (ticket_of (serial_of t)) (k ∙ (closing s t e).0)) ∙ i)
 
-  closes : (o : Option (Device V)) (t : Ticket) (u : Unclosed) → Some t ≡ due_from o → Err u ≡ closed_or t (outcome_by (closed t) o) → ⊥
-  closes None t u i k = absurd (let z : ◌≡◌ {A = ℕ} 0 1 = cc in omega arith)
-  closes (Some d) t u i k = closes_by d t u d.keypad refl i k
+  unreturned : (t : Ticket) (x : Result (Act V) Fault) (u : Unclosed) → Err u ≡ returned t x → (x ≡ Err u.fault) × (u.ticket ≡ t)
+  unreturned t (Ok a) u e = cc
+  unreturned t (Err f) u e =
+      let same = unclosed_same u (record { fault = f; ticket = t }) e in
+      (ap (λ (x : Unclosed). Err x.fault) (sym same), ap (λ (x : Unclosed). x.ticket) same)
 
-  pub kept_closes : (s : Sensor V) (t : Ticket) (u : Unclosed) → Kept s (Some t) → Err u ≡ close_reply s t → ⊥
-  kept_closes s t u k e = ⊎_elim (λ i. let z : ◌≡◌ {A = ℕ} 0 1 = cc in omega arith) (λ i. closes s.device t u i e) k
+  -- one that is denied hands its ticket back
+  pub not_closed : (s t : Sensor V) (kept : Option Ticket) (given : Ticket) (u : Unclosed) → kept ≡ due s
+      → Err u ≡ returned given (checked m s (close_keypad (serial_of given))) → t ≡ next m s (close_keypad (serial_of given))
+      → (kept ≡ due t) × (u.ticket ≡ given)
+  not_closed s t kept given u k e i =
+      let c = close_keypad (serial_of given) in
+      let p = unreturned given (checked m s c) u e in
+      (denied s t kept c u.fault k p.0 i, p.1)
+
+  -- where none is due, a closing changes nothing
+  none_closed_from : (o : Option (Device V)) (n : ℕ) → None ≡ due_from o → o ≡ next_by m o (checked_by m o (close_keypad n))
+  none_closed_from None n e = refl
+  none_closed_from (Some d) n e = go (eqb d.serial n) d.keypad e
+    where
+      go : (a b : Bool) → None ≡ cond b (Some (ticket_of d.serial)) None
+          → Some d ≡ Some (device_by m d (closing_by d a b))
+      go a true e = cc
+      go true false e = refl
+      go false false e = refl
+
+  pub none_closed : (s : Sensor V) (n : ℕ) → None ≡ due s → s ≡ next m s (close_keypad n)
+  unfolding checked
+  none_closed s n e = ap (λ o. record { device = o }) (none_closed_from s.device n e)

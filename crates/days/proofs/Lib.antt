@@ -1,12 +1,4 @@
-mod Accessed
-mod Keypads
-mod Making
-mod Replies
-mod Requesting
-mod Standings
-mod Running
-mod Sampling
-mod Teaching
 mod Entering
 mod Keeping
-mod Writing
+mod Replies
+mod Sizes

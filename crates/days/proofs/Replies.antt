@@ -1,113 +1,182 @@
--- What a sample and a request write at the front of a buffer is what the rules say that they answer.
-use Rattle.std.proofs.Common.{◌≡◌, ℕ, Bool, true, false, cond, ltb, List, length, take, drop, Some, None, Ok, Err, Option, Result, refl, sym, ap, ◌∙◌}
-use Rattle.std.proofs.lemmas.List.{length-replicate}
+-- What each call answers by the length of what it wrote, and the buffers that stay.
+use Rattle.std.proofs.Common.{◌≡◌, ℕ, Bool, true, false, cond, ltb, List, [], length, take, drop, Some, None, Ok, Err, Option, Result, refl, ap, ◌∙◌}
 use lib.Seq.{take-append_seam}
-use Rattle.octets.specs.Buffers.{left, over}
+use Rattle.octets.specs.Buffers.{over}
 use Rattle.faults.specs.declared.Fault.{Fault}
-use Rattle.faults.specs.declared.Denial.TheVariants.{BufferTooShort, ResponseBuffer}
-use Rattle.faults.specs.Denials.{entry, fault}
+use Rattle.faults.specs.declared.Denial.TheVariants.{ResponseBuffer}
+use Rattle.faults.specs.Denials.{entry, fault, then}
 use Rattle.isdu.specs.declared.Direction.{Direction}
 use Rattle.isdu.specs.Decoding.{decoded}
 use Rattle.isdu.specs.Requests.{Asked}
 use Rattle.isdu.proofs.Unanswered.{Unanswered, unanswered}
-use Rattle.kinds.specs.Meaning.{Meaning, Lawful}
+use Rattle.kinds.specs.Meaning.{Meaning}
 use Rattle.channels.specs.declared.reading.Reading.{Reading}
-use Rattle.channels.specs.Readings.{block_length, counted}
-use Rattle.channels.specs.Table.{judged_table, signals_octet}
-use Rattle.channels.proofs.Blocks.{block_long}
-use Rattle.objects.specs.Objects.{access_checked}
-use Rattle.objects.specs.Writes.{then}
-use Rattle.sensor.specs.Samples as samples_of
-use Rattle.sensor.specs.Requests as requests_of
-use Rattle.sensor.specs.Requests.{Answered}
-use Rattle.rules.specs.Calls.{Act, Order, accepted, denied, request, sample, to_sample}
-use Rattle.rules.specs.Rules.{Fixed, Held, checked, negative, next, next_by, object_asked, performed, process_data, reading_of, reply, reply_by, request_granted, response_of, sample_asked}
-use Rattle.rules.specs.Sound.{Sound}
-use Rattle.days.specs.Devices.{device_of}
-use Rattle.days.specs.Made.{responded, written, zeros}
-use Rattle.days.proofs.Requesting.{answer_of, request_is}
-use Rattle.days.proofs.Sampling.{sampled_is}
+use Rattle.sensor.specs.declared.device.Device.{Device}
+use Rattle.sensor.specs.declared.keypad.Ticket.{Ticket}
+use Rattle.sensor.specs.declared.keypad.Unclosed.{Unclosed}
+use Rattle.sensor.specs.declared.sensor.Sensor.{Sensor}
+use Rattle.sensor.specs.Answers.{counted, plain, returned, ticketed}
+use Rattle.sensor.specs.Calls.{Call, sample, request, open_keypad, close_keypad, Act, accepted, denied}
+use Rattle.sensor.specs.Keypad.{serial_of, ticket_of}
+use Rattle.sensor.specs.Requests.{asked_of, negative, refused}
+use Rattle.sensor.specs.Rules.{carried, checked, checked_by, reply, reply_by, serial, written, written_by}
+use Rattle.days.specs.declared.call.Reply.{Reply}
+use Rattle.days.specs.declared.call.Reply.TheVariants.{Accepted, Ticket as TicketTold, Denied}
+use Rattle.days.specs.Told.{counted_told, numbered, plainly_told, read_from, refusal_length, responded_told}
 
--- octets over the front of a buffer are the first of it
-front : (octets buffer : List ℕ) → take (length octets) (over octets buffer) ≡ octets
-front octets buffer = take-append_seam octets (drop (length octets) buffer)
+module _ {V : Type 0} (m : Meaning V) where
+  -- ---- calls that write nothing
 
-module _ {V : Type 0} (m : Meaning V) (P : Fixed V) (h : Held V) where
-  -- ---- requests
+  abbrev pub WritesNothing : Call → Type 0
+  WritesNothing (sample r room) = ⊥
+  WritesNothing (request frame room) = ⊥
+  WritesNothing c = Unit {0}
 
-  -- a denied frame has no response
-  abbrev Quiet : Result Asked Fault → Result (Act V) Fault → Type 0
-  Quiet (Ok a) x = Unit {0}
-  Quiet (Err e) (Ok a) = Unit {0}
-  Quiet (Err e) (Err f) = (entry f.denial).code ≡ None
+  none_written : (o : Option (Device V)) (c : Call) (x : Result (Act V) Fault) → WritesNothing c → [] ≡ written_by m o c x
+  none_written o (sample r room) x h = absurd h
+  none_written o (request frame room) x h = absurd h
+  none_written None c x h = refl
+  none_written (Some d) c x h = refl
 
-  refused : (direction : Direction) (f : Fault) (code : Option ℕ) (buffer : List ℕ) → (entry f.denial).code ≡ code → responded (Err f) (over (response_of m P direction (entry f.denial).code) buffer) ≡ denied f (response_of m P direction (entry f.denial).code)
-  refused direction f None buffer e = rw e refl
-  refused direction f (Some code) buffer e = rw e refl
+  pub buffer_stays : (s : Sensor V) (c d : Call) (buffer : List ℕ) → WritesNothing c → c ≡ d → buffer ≡ over (written m s d) buffer
+  buffer_stays s c d buffer h e =
+      ap (λ octets. over octets buffer) (none_written s.device c (checked m s c) h) ∙ ap (λ k. over (written m s k) buffer) e
 
-  responded_by : (frame buffer : List ℕ) (room : ℕ) (d : Result Asked Fault) (x : Result (Act V) Fault) → decoded frame ≡ d → Quiet d x → responded (answer_of m P h d x).reply (over (answer_of m P h d x).response buffer) ≡ reply_by m P h (request frame room) x
-  responded_by frame buffer room d (Ok a) e q = ap accepted (front (request_granted m P a) buffer)
-  responded_by frame buffer room (Ok a) (Err f) e q =
-      refused a.direction f (entry f.denial).code buffer refl ∙ ap (λ z. denied f (negative m P z f)) (sym e)
-  responded_by frame buffer room (Err g) (Err f) e q = rw q (rw e refl)
+  -- an opening is told by the serial number of its ticket
+  abbrev pub Plain : Call → Type 0
+  Plain open_keypad = ⊥
+  Plain c = WritesNothing c
 
-  quiet : (frame : List ℕ) (room : ℕ) → Quiet (decoded frame) (checked m P h (request frame room))
-  unfolding checked
-  quiet frame room = go (ltb room 16) (decoded frame) (unanswered frame)
+  plain_by : (n : ℕ) (o : Option (Device V)) (c : Call) (x : Result (Act V) Fault) → Plain c
+      → plainly_told (plain x) ≡ numbered (reply_by m n c (written_by m o c x) x)
+  plain_by n o (sample r room) x h = absurd h
+  plain_by n o (request frame room) x h = absurd h
+  plain_by n o open_keypad x h = absurd h
+  plain_by n None c (Ok a) h = refl
+  plain_by n None c (Err f) h = refl
+  plain_by n (Some d) c (Ok a) h = refl
+  plain_by n (Some d) c (Err f) h = refl
+
+  pub plain_told : (s : Sensor V) (c d : Call) (answer : Result (Unit {0}) Fault) (r : Reply ℕ) → Plain c
+      → r ≡ plainly_told answer → answer ≡ plain (checked m s c) → c ≡ d → r ≡ numbered (reply m s d)
+  plain_told s c d answer r h e i k =
+      e ∙ ap plainly_told i ∙ plain_by (serial s) s.device c (checked m s c) h ∙ ap (λ call. numbered (reply m s call)) k
+
+  -- ---- openings and closings
+
+  opened_by : (n : ℕ) (octets : List ℕ) (x : Result (Act V) Fault) (t : Ticket) → Ok t ≡ ticketed n x
+      → TicketTold (serial_of t) ≡ numbered (reply_by m n open_keypad octets x)
+  opened_by n octets (Ok a) t e = ap TicketTold (same t e)
     where
-      within : Asked → Result (Order V) Fault
-      within a = then (access_checked m h.channels h.keypad a) (λ o. object_asked m P h.channels a.direction a o)
+      same : (t : Ticket) → ◌≡◌ {A = Result Ticket Fault} (Ok t) (Ok (ticket_of n)) → serial_of t ≡ n
+      same t e = cc
+  opened_by n octets (Err f) t e = cc
 
-      go : (b : Bool) (d : Result Asked Fault) → Unanswered d → Quiet d (then (cond b (Err (fault ResponseBuffer)) (then d within)) (performed m P h))
-      go true (Ok a) s = tt
-      go true (Err f) s = refl
-      go false (Ok a) s = tt
-      go false (Err f) s = s
+  pub opened_told : (s : Sensor V) (t : Ticket) → Ok t ≡ ticketed (serial s) (checked m s open_keypad)
+      → TicketTold (serial_of t) ≡ numbered (reply m s open_keypad)
+  opened_told s t e = opened_by (serial s) (written m s open_keypad) (checked m s open_keypad) t e
 
-  module _ (l : Lawful V m) where
-    -- ---- samples
+  unopened_by : (n : ℕ) (o : Option (Device V)) (x : Result (Act V) Fault) (f : Fault) → Err f ≡ ticketed n x
+      → Denied f 0 ≡ numbered (reply_by m n open_keypad (written_by m o open_keypad x) x)
+  unopened_by n o (Ok a) f e = cc
+  unopened_by n None (Err g) f e = cc
+  unopened_by n (Some d) (Err g) f e = cc
 
-    block_front : (r : Reading V) (buffer : List ℕ) → take (block_length m) (over (process_data m P h r) buffer) ≡ process_data m P h r
-    block_front r buffer =
-        ap (λ n. take n (over (process_data m P h r) buffer)) (sym (block_long m l r P.scale (signals_octet (judged_table m r h.channels))))
-        ∙ front (process_data m P h r) buffer
+  pub unopened_told : (s : Sensor V) (f : Fault) → Err f ≡ ticketed (serial s) (checked m s open_keypad)
+      → Denied f 0 ≡ numbered (reply m s open_keypad)
+  unopened_told s f e = unopened_by (serial s) s.device (checked m s open_keypad) f e
 
-    sample_in : (octets : Reading (List ℕ)) (room : ℕ) (r : Reading V) (buffer : List ℕ) (b : Bool) → written (cond b (Err (fault BufferTooShort)) (Ok (block_length m))) (left (cond b (Err (fault BufferTooShort)) (Ok (block_length m))) (process_data m P h (counted m P.low P.high r)) buffer) ≡ reply_by m P h (sample octets room) (then (cond b (Err (fault BufferTooShort)) (Ok (to_sample (counted m P.low P.high r)))) (performed m P h))
-    sample_in octets room r buffer true = refl
-    sample_in octets room r buffer false = ap accepted (block_front (counted m P.low P.high r) buffer)
+  closed_plain : (t : Ticket) (x : Result (Act V) Fault) → Ok tt ≡ returned t x → Ok tt ≡ plain x
+  closed_plain t (Ok a) e = refl
+  closed_plain t (Err f) e = cc
 
-    sample_read : (octets : Reading (List ℕ)) (room : ℕ) (o : Option (Reading V)) (buffer : List ℕ) → length buffer ≡ room → written (samples_of.reply_by m (Some (device_of m P h)) o buffer) (samples_of.buffer_by m (Some (device_of m P h)) o buffer) ≡ reply_by m P h (sample octets room) (then (sample_asked m P o room) (performed m P h))
-    sample_read octets room None buffer e = refl
-    sample_read octets room (Some r) buffer e = rw e (sample_in octets room r buffer (ltb room (block_length m)))
+  unclosed_plain : (t : Ticket) (x : Result (Act V) Fault) (u : Unclosed) → Err u ≡ returned t x → Err u.fault ≡ plain x
+  unclosed_plain t (Ok a) u e = cc
+  unclosed_plain t (Err f) u e = cc
 
-    pub sample_told : (octets : Reading (List ℕ)) (room : ℕ) → written (samples_of.reply_by m (Some (device_of m P h)) (reading_of m octets) (zeros room)) (samples_of.buffer_by m (Some (device_of m P h)) (reading_of m octets) (zeros room)) ≡ reply m P h (sample octets room)
-    unfolding checked
-    sample_told octets room = sample_read octets room (reading_of m octets) (zeros room) (length-replicate room 0)
+  pub closed_told : (s : Sensor V) (t : Ticket) (n : ℕ) → serial_of t ≡ n → Ok tt ≡ returned t (checked m s (close_keypad (serial_of t)))
+      → Accepted 0 ≡ numbered (reply m s (close_keypad n))
+  closed_told s t n i e =
+      let c = close_keypad (serial_of t) in
+      plain_told s c (close_keypad n) (Ok tt) (Accepted 0) tt refl (closed_plain t (checked m s c) e) (ap close_keypad i)
 
-  left_in : (r : Reading V) (b : Bool) → cond b (device_of m P h) (samples_of.sampled m (device_of m P h) r) ≡ device_of m P (next_by m P h (then (cond b (Err (fault BufferTooShort)) (Ok (to_sample (counted m P.low P.high r)))) (performed m P h)))
-  left_in r true = refl
-  left_in r false = sampled_is m P h r
+  pub unclosed_told : (s : Sensor V) (t : Ticket) (n : ℕ) (u : Unclosed) → serial_of t ≡ n → Err u ≡ returned t (checked m s (close_keypad (serial_of t)))
+      → Denied u.fault 0 ≡ numbered (reply m s (close_keypad n))
+  unclosed_told s t n u i e =
+      let c = close_keypad (serial_of t) in
+      plain_told s c (close_keypad n) (Err u.fault) (Denied u.fault 0) tt refl (unclosed_plain t (checked m s c) u e) (ap close_keypad i)
 
-  sample_left : (o : Option (Reading V)) (buffer : List ℕ) (room : ℕ) → length buffer ≡ room → samples_of.after_by m (Some (device_of m P h)) o buffer ≡ Some (device_of m P (next_by m P h (then (sample_asked m P o room) (performed m P h))))
-  sample_left None buffer room e = refl
-  sample_left (Some r) buffer room e = rw e (ap Some (left_in r (ltb room (block_length m))))
+  -- ---- samples and requests
 
-  pub sample_made : (octets : Reading (List ℕ)) (room : ℕ) → samples_of.after_by m (Some (device_of m P h)) (reading_of m octets) (zeros room) ≡ Some (device_of m P (next m P h (sample octets room)))
+  sample_by : (n : ℕ) (o : Option (Device V)) (r : Reading (List ℕ)) (room : ℕ) (x : Result (Act V) Fault)
+      → counted_told (counted (written_by m o (sample r room) x) x) ≡ numbered (reply_by m n (sample r room) (written_by m o (sample r room) x) x)
+  sample_by n o r room (Ok a) = refl
+  sample_by n None r room (Err f) = refl
+  sample_by n (Some d) r room (Err f) = refl
+
+  pub sample_told : (s : Sensor V) (r : Reading (List ℕ)) (room : ℕ) (d : Call) (answer : Result ℕ Fault) (told : Reply ℕ)
+      → told ≡ counted_told answer → answer ≡ counted (written m s (sample r room)) (checked m s (sample r room)) → sample r room ≡ d
+      → told ≡ numbered (reply m s d)
+  sample_told s r room d answer told e i k =
+      e ∙ ap counted_told i ∙ sample_by (serial s) s.device r room (checked m s (sample r room)) ∙ ap (λ call. numbered (reply m s call)) k
+
+  -- a denial has a negative response where a request is there to answer, and the denial has an ErrorCode
+  negative_length : (direction : Direction) (code : Option ℕ) → refusal_length code ≡ length (negative direction code)
+  negative_length direction None = refl
+  negative_length direction (Some code) = refl
+
+  -- a frame that is no request is denied without one
+  abbrev Silent : Result Asked Fault → Result (Act V) Fault → Type 0
+  Silent (Ok a) x = Unit {0}
+  Silent (Err e) (Ok a) = Unit {0}
+  Silent (Err e) (Err f) = (entry f.denial).code ≡ None
+
+  silent : (d : Device V) (b : Bool) (a : Result Asked Fault) → Unanswered a
+      → Silent a (carried m d (cond b (Err (fault ResponseBuffer)) (then a (asked_of m d))))
+  silent d b (Ok a) u = tt
+  silent d true (Err f) u = refl
+  silent d false (Err f) u = u
+
+  refused_length : (a : Result Asked Fault) (f : Fault) → Silent a (Err f) → refusal_length (entry f.denial).code ≡ length (refused a f)
+  refused_length (Ok a) f u = negative_length a.direction (entry f.denial).code
+  refused_length (Err e) f u = ap refusal_length u
+
+  request_by : (n : ℕ) (o : Option (Device V)) (frame : List ℕ) (room : ℕ)
+      → responded_told (counted (written_by m o (request frame room) (checked_by m o (request frame room))) (checked_by m o (request frame room)))
+      ≡ numbered (reply_by m n (request frame room) (written_by m o (request frame room) (checked_by m o (request frame room))) (checked_by m o (request frame room)))
+  request_by n None frame room = refl
+  request_by n (Some d) frame room = go (checked_by m (Some d) (request frame room)) (silent d (ltb room 16) (decoded frame) (unanswered frame))
+    where
+      go : (x : Result (Act V) Fault) → Silent (decoded frame) x
+          → responded_told (counted (written_by m (Some d) (request frame room) x) x) ≡ numbered (reply_by m n (request frame room) (written_by m (Some d) (request frame room) x) x)
+      go (Ok a) u = refl
+      go (Err f) u = ap (Denied f) (refused_length (decoded frame) f u)
+
+  unfolded : (s : Sensor V) (frame : List ℕ) (room : ℕ)
+      → responded_told (counted (written m s (request frame room)) (checked m s (request frame room))) ≡ numbered (reply m s (request frame room))
   unfolding checked
-  sample_made octets room = sample_left (reading_of m octets) (zeros room) room (length-replicate room 0)
+  unfolded s frame room = request_by (serial s) s.device frame room
 
-  module _ (s : Sound h) where
-    whole : (frame : List ℕ) (room : ℕ) → requests_of.device_answered m (device_of m P h) frame (zeros room) ≡ answer_of m P h (decoded frame) (checked m P h (request frame room))
-    whole frame room = request_is m P h s frame (zeros room) ∙ ap (λ n. answer_of m P h (decoded frame) (checked m P h (request frame n))) (length-replicate room 0)
+  pub request_told : (s : Sensor V) (frame : List ℕ) (room : ℕ) (d : Call) (answer : Result ℕ Fault) (told : Reply ℕ)
+      → told ≡ responded_told answer → answer ≡ counted (written m s (request frame room)) (checked m s (request frame room)) → request frame room ≡ d
+      → told ≡ numbered (reply m s d)
+  request_told s frame room d answer told e i k = e ∙ ap responded_told i ∙ unfolded s frame room ∙ ap (λ call. numbered (reply m s call)) k
 
-    pub request_told : (frame : List ℕ) (room : ℕ) → responded (requests_of.device_answered m (device_of m P h) frame (zeros room)).reply (over (requests_of.device_answered m (device_of m P h) frame (zeros room)).response (zeros room)) ≡ reply m P h (request frame room)
-    request_told frame room =
-        ap (λ (x : Answered V). responded x.reply (over x.response (zeros room))) (whole frame room)
-        ∙ responded_by frame (zeros room) room (decoded frame) (checked m P h (request frame room)) refl (quiet frame room)
+  -- ---- a reply is read back from the buffer that the call wrote to
 
-    left_by : (d : Result Asked Fault) (x : Result (Act V) Fault) → (answer_of m P h d x).device ≡ device_of m P (next_by m P h x)
-    left_by d (Ok a) = refl
-    left_by d (Err f) = refl
+  front : (octets buffer : List ℕ) → take (length octets) (over octets buffer) ≡ octets
+  front octets buffer = take-append_seam octets (drop (length octets) buffer)
 
-    pub request_made : (frame : List ℕ) (room : ℕ) → (requests_of.device_answered m (device_of m P h) frame (zeros room)).device ≡ device_of m P (next m P h (request frame room))
-    request_made frame room = ap (λ (x : Answered V). x.device) (whole frame room) ∙ left_by (decoded frame) (checked m P h (request frame room))
+  read_by : (n : ℕ) (c : Call) (octets buffer : List ℕ) (x : Result (Act V) Fault)
+      → read_from (over octets buffer) (numbered (reply_by m n c octets x)) ≡ reply_by m n c octets x
+  read_by n open_keypad octets buffer (Ok a) = refl
+  read_by n c octets buffer (Ok a) = ap accepted (front octets buffer)
+  read_by n c octets buffer (Err f) = ap (denied f) (front octets buffer)
+
+  pub read_back : (s : Sensor V) (c d : Call) (before buffer : List ℕ) (made : Reply ℕ)
+      → made ≡ numbered (reply m s c) → buffer ≡ over (written m s c) before → c ≡ d → read_from buffer made ≡ reply m s d
+  read_back s c d before buffer made e i k =
+      ap (read_from buffer) e
+      ∙ ap (λ octets. read_from octets (numbered (reply m s c))) i
+      ∙ read_by (serial s) c (written m s c) before (checked m s c)
+      ∙ ap (reply m s) k

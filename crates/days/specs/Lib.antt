@@ -1,6 +1,3 @@
-pub mod Days
-pub mod Devices
-pub mod Made
+pub mod Kept
 pub mod Runs
-pub mod Tickets
 pub mod Told

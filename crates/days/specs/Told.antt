@@ -1,37 +1,46 @@
 -- What the calls and answers of the code stand for.
-use Rattle.std.specs.Prelude.{ℕ, Bool, List, map, vec_items}
+use Rattle.std.specs.Prelude.{ℕ, Bool, List, length, map, take, Some, None, Ok, Err, Option, Result, vec_items}
 use Rattle.std.specs.Borrow.{Bor}
 use Rattle.std.specs.Global.{Vec}
+use Rattle.faults.specs.declared.Fault.{Fault}
+use Rattle.faults.specs.Denials.{entry}
+use Rattle.isdu.specs.declared.Direction.TheVariants.{Write}
+use Rattle.isdu.specs.Replies.{refusal}
 use Rattle.channels.specs.declared.reading.Reading.{Reading}
 use Rattle.channels.specs.declared.reading.Reading.TheVariants.{Value, Below, Above, NoData}
+use Rattle.channels.specs.declared.row.Row.{Row}
+use Rattle.channels.specs.Judging.{signal}
+use Rattle.sensor.specs.declared.sensor.Sensor.{Sensor}
+use Rattle.sensor.specs.declared.setup.Setup.{Setup}
+use Rattle.sensor.specs.Calls as rules
+use Rattle.sensor.specs.Lent.{lent_reading, lent_setup}
+use Rattle.sensor.specs.Rules as rules_of
+use Rattle.days.specs.declared.bench.BenchSensor.{BenchSensor}
 use Rattle.days.specs.declared.call.Call.{Call}
 use Rattle.days.specs.declared.call.Call.TheVariants.{SetUp, Sample, Request, OpenKeypad, WriteKeypad, CloseKeypad, Restart}
 use Rattle.days.specs.declared.call.Channel.{Channel}
 use Rattle.days.specs.declared.call.Entry.{Entry}
+use Rattle.days.specs.declared.call.Line.{Line}
 use Rattle.days.specs.declared.call.Reply.{Reply}
 use Rattle.days.specs.declared.call.Reply.TheVariants.{Accepted, Ticket, Denied}
-use Rattle.channels.specs.declared.row.Row.{Row}
-use Rattle.channels.specs.Judging.{signal}
-use Rattle.sensor.specs.declared.setup.Setup.{Setup}
-use Rattle.rules.specs.Calls as rules
-use Rattle.rules.specs.Rules as rules_of
-use Rattle.days.specs.Days.{Line, set_up, call}
 
--- the octets of a reading
+-- a call with lent octets, into a buffer of this length
+abbrev pub called : Call (Bor (List ℕ)) → ℕ → rules.Call
+called (SetUp setup) room = rules.set_up (lent_setup setup)
+called (Sample reading) room = rules.sample (lent_reading reading) room
+called (Request frame) room = rules.request frame.now room
+called OpenKeypad room = rules.open_keypad
+called (WriteKeypad serial channel setpoint octets) room = rules.write_keypad serial channel setpoint octets.now
+called (CloseKeypad serial) room = rules.close_keypad serial
+called Restart room = rules.restart
+
+-- the octets of a reading and of a set-up that own them
 abbrev pub octets_of : Reading (Vec ℕ) → Reading (List ℕ)
 octets_of (Value octets) = Value (vec_items octets)
 octets_of Below = Below
 octets_of Above = Above
 octets_of NoData = NoData
 
--- those of a reading that lends them
-abbrev pub lent_octets : Reading (Bor (List ℕ)) → Reading (List ℕ)
-lent_octets (Value octets) = Value octets.now
-lent_octets Below = Below
-lent_octets Above = Above
-lent_octets NoData = NoData
-
--- a set-up
 abbrev pub setup_of : Setup (Vec ℕ) → Setup (List ℕ)
 setup_of g = record {
   serial = g.serial;
@@ -41,33 +50,63 @@ setup_of g = record {
   range = record { low = vec_items g.range.low; high = vec_items g.range.high };
 }
 
--- a set-up that lends them
-abbrev pub lent_setup_octets : Setup (Bor (List ℕ)) → Setup (List ℕ)
-lent_setup_octets g = record {
-  serial = g.serial;
-  channels = g.channels;
-  scale = g.scale;
-  terms = g.terms;
-  range = record { low = g.range.low.now; high = g.range.high.now };
-}
+-- a call with octets of its own
+abbrev pub owned : Call (Vec ℕ) → ℕ → rules.Call
+owned (SetUp setup) room = rules.set_up (setup_of setup)
+owned (Sample reading) room = rules.sample (octets_of reading) room
+owned (Request frame) room = rules.request (vec_items frame) room
+owned OpenKeypad room = rules.open_keypad
+owned (WriteKeypad serial channel setpoint octets) room = rules.write_keypad serial channel setpoint (vec_items octets)
+owned (CloseKeypad serial) room = rules.close_keypad serial
+owned Restart room = rules.restart
 
--- a call
-abbrev pub called : Call → Line
-called (SetUp setup) = set_up (setup_of setup)
-called (Sample reading room) = call (rules.sample (octets_of reading) room)
-called (Request frame room) = call (rules.request (vec_items frame) room)
-called OpenKeypad = call rules.open_keypad
-called (WriteKeypad serial channel setpoint octets) = call (rules.write_keypad serial channel setpoint (vec_items octets))
-called (CloseKeypad serial) = call (rules.close_keypad serial)
-called Restart = call rules.restart
+-- a line of a run
+abbrev pub call_of : Line → rules.Call
+call_of line = owned line.call line.room
 
--- an answer
-abbrev pub told : Reply → rules.Reply
+-- a reply by the number of the octets that were written to the front of the buffer
+abbrev pub numbered : rules.Reply → Reply ℕ
+numbered (rules.accepted octets) = Accepted (length octets)
+numbered (rules.ticket serial) = Ticket serial
+numbered (rules.denied fault octets) = Denied fault (length octets)
+
+-- the reply of a call that writes nothing
+abbrev pub plainly_told : Result (Unit {0}) Fault → Reply ℕ
+plainly_told (Ok u) = Accepted 0
+plainly_told (Err f) = Denied f 0
+
+-- of one that writes where it is accepted
+abbrev pub counted_told : Result ℕ Fault → Reply ℕ
+counted_told (Ok n) = Accepted n
+counted_told (Err f) = Denied f 0
+
+-- how many octets a negative response has, of a write as of a read
+abbrev pub refusal_length : Option ℕ → ℕ
+refusal_length None = 0
+refusal_length (Some code) = length (refusal Write code)
+
+-- of a request: a denial that has an ErrorCode writes a negative response
+abbrev pub responded_told : Result ℕ Fault → Reply ℕ
+responded_told (Ok n) = Accepted n
+responded_told (Err f) = Denied f (refusal_length (entry f.denial).code)
+
+-- with the octets of the buffer
+abbrev pub read_from : List ℕ → Reply ℕ → rules.Reply
+read_from buffer (Accepted n) = rules.accepted (take n buffer)
+read_from buffer (Ticket serial) = rules.ticket serial
+read_from buffer (Denied fault n) = rules.denied fault (take n buffer)
+
+-- a reply with octets of its own
+abbrev pub told : Reply (Vec ℕ) → rules.Reply
 told (Accepted octets) = rules.accepted (vec_items octets)
 told (Ticket serial) = rules.ticket serial
 told (Denied fault octets) = rules.denied fault (vec_items octets)
 
 module _ {V : Type 0} where
+  -- the sensor on a bench
+  abbrev pub sensor_of : BenchSensor V → Sensor V
+  sensor_of b = b.sensor
+
   -- a row with its signal
   abbrev pub channel_of : Row V → Channel V
   channel_of r = record { row = r; signal = signal r }
@@ -75,6 +114,6 @@ module _ {V : Type 0} where
   abbrev pub channel_told : Channel V → Row V × Bool
   channel_told c = (c.row, c.signal)
 
-  -- an entry: the answer, and what every channel shows after it
+  -- an entry: the reply, and what every channel shows after it
   abbrev pub entry_told : Entry V → rules_of.Entry V
   entry_told e = record { reply = told e.reply; channels = map channel_told (vec_items e.channels) }

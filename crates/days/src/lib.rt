@@ -1,8 +1,7 @@
-// A day of a sensor: calls from its set-up on, made on the real sensor, with the laws that hold of every list of them.
+// A sensor on a bench: it takes one call at a time with lent octets, or a list of calls with the laws that hold of every list.
 #![tactic(auto)]
 
+pub mod bench;
 pub mod call;
 pub mod day;
-mod keypad;
-mod made;
 mod tickets;

@@ -1,7 +1,9 @@
-// Tickets: the one that the sensor gave is kept until it comes back, and one of any serial number is had from a spare sensor.
-ghost use Rattle.days.specs.Tickets.{TakesBack};
-ghost use Rattle.sensor.specs.Keypad.{close_reply, ticket_of};
-ghost use Rattle.std.specs.Prelude.{◌≡◌, Some, None, Ok};
+// Tickets of any serial number, which a spare sensor gives and takes back.
+ghost use Rattle.days.specs.Kept.{TakesBack};
+ghost use Rattle.kinds.specs.IntegerT16.{integer_t16};
+ghost use Rattle.kinds.specs.Integers.{integers};
+ghost use Rattle.sensor.specs.Keypad.{serial_of, ticket_of};
+ghost use Rattle.std.specs.Prelude.{◌≡◌, Some, None};
 
 use channels::range::Range;
 use kinds::integer_t16::IntegerT16;
@@ -23,8 +25,9 @@ pub(crate) fn keep(place: &mut Option<Ticket>, ticket: Ticket)
 
 // A sensor with a keypad operation open, and the ticket of it. Only the serial number of a ticket is compared, so it serves
 // for any sensor that has it.
+#[tactic(auto, unfolding(sensor::specs::Rules::checked))]
 pub(crate) fn spare(serial: u32) -> (Sensor<IntegerT16>, Ticket)
-    ensures sensor { TakesBack result.0 serial }
+    ensures sensor { TakesBack (integers integer_t16) result.0 serial }
     ensures ticket { result.1 ≡ ticket_of serial }
 {
     let mut sensor = Sensor::<IntegerT16>::blank();
@@ -48,8 +51,9 @@ pub(crate) fn spare(serial: u32) -> (Sensor<IntegerT16>, Ticket)
 }
 
 // Closes the operation of a spare sensor with a ticket of its serial number.
+#[tactic(auto, unfolding(sensor::specs::Rules::checked))]
 pub(crate) fn give_back(mut spare: Sensor<IntegerT16>, ticket: Ticket)
-    requires { close_reply spare ticket ≡ Ok tt }
+    requires { TakesBack (integers integer_t16) spare (serial_of ticket) }
 {
     match spare.close_keypad(ticket) {
         Ok(()) => {}

@@ -1,5 +1,5 @@
 -- The denials: number, layer and, where a negative response tells of one, its ErrorCode.
-use Rattle.std.specs.Prelude.{ℕ, List, Some, None, Option, codes}
+use Rattle.std.specs.Prelude.{ℕ, List, Some, None, Ok, Err, Option, Result, codes}
 use Rattle.faults.specs.declared.Denial.{Denial}
 use Rattle.faults.specs.declared.Denial.TheVariants.{SetupUnderKeypad, ChannelCount, Range, CaptureLength, Blank, BufferTooShort, ResponseBuffer, FrameLength, CheckOctet, Service, NoIndex, NoSubindex, WrongDirection, DataTooLong, DataTooShort, WriteUnderKeypad, NoValue, AboveRange, BelowRange, UnknownCommand, NotInState, AlreadyOpen, TeachRunning, OtherSerial, NotOpen, NoSetpoint, NoFrame}
 use Rattle.faults.specs.declared.Layer.{Layer}
@@ -58,10 +58,19 @@ layer_word Value = codes "value"
 layer_word Teach = codes "teach"
 layer_word Keypad = codes "keypad"
 
--- the fault of a denial that concerns no object
-abbrev pub fault : Denial → Fault
-fault d = record { denial = d; index = 0; subindex = 0 }
-
 -- the fault of a denial that concerns the object at a place
 abbrev pub fault_at : Denial → Place → Fault
 fault_at d p = record { denial = d; index = p.index; subindex = p.subindex }
+
+-- where no object is concerned, index and subindex are 0
+abbrev pub no_object : Place
+no_object = record { index = 0; subindex = 0 }
+
+-- the fault of a denial that concerns no object
+abbrev pub fault : Denial → Fault
+fault d = fault_at d no_object
+
+-- the first denial, or what follows
+abbrev pub then : {A B : Type 0} → Result A Fault → (A → Result B Fault) → Result B Fault
+then (Ok a) f = f a
+then (Err e) f = Err e

@@ -8,7 +8,7 @@ use Rattle.isdu.specs.Requests.{Asked}
 use Rattle.isdu.specs.CheckOctet.{checked}
 use Rattle.isdu.specs.Services.{service_digit}
 use Rattle.isdu.specs.Addresses.{address_octets, shortest_addressing}
-use Rattle.isdu.specs.Decoding.{fits_service}
+use Rattle.isdu.specs.Decoding.{fits_service, most_in_digit, most_in_octet}
 
 -- the service in the high digit of the first octet, and the total length: in the low digit, or in a second octet
 abbrev pub heading : Bool → ℕ → ℕ → List ℕ
@@ -17,16 +17,16 @@ heading true digit total = (16 * digit + 1) ∷ total ∷ []
 
 -- the shortest heading of a frame that has `size` octets without a second length octet
 abbrev pub shortest_heading : ℕ → ℕ → List ℕ
-shortest_heading digit size = cond (nat_le size 15) (heading false digit size) (heading true digit (size + 1))
+shortest_heading digit size = cond (nat_le size most_in_digit) (heading false digit size) (heading true digit (size + 1))
 
--- the length of a frame with so many octets of content: with first octet and check octet, and past 15 a second length octet
+-- the length of a frame with so many octets of content: with first octet and check octet, and past what the digit gives a second length octet
 abbrev pub total_length : ℕ → ℕ
-total_length content = cond (nat_le (content + 2) 15) (content + 2) (content + 2 + 1)
+total_length content = cond (nat_le (content + 2) most_in_digit) (content + 2) (content + 2 + 1)
 
--- how many octets of a frame of that length go into a buffer: all of them, unless it is over 238 or the room is too short
+-- how many octets of a frame of that length go into a buffer: all of them, unless no frame is so long or the room is too short
 abbrev pub delivered : ℕ → ℕ → Result ℕ Fault
 delivered total room =
-    cond (nat_lt 238 total) (Err (fault NoFrame))
+    cond (nat_lt most_in_octet total) (Err (fault NoFrame))
     (cond (nat_lt room total) (Err (fault BufferTooShort))
     (Ok total))
 

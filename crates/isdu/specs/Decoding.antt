@@ -13,10 +13,20 @@ use Rattle.isdu.specs.CheckOctet.{exclusive_or, before_check}
 use Rattle.isdu.specs.Services.{service_of}
 use Rattle.isdu.specs.Addresses.{address_of}
 
--- the length in the second octet, 17 to 238; any other octet is no length
+-- the first octet gives a length of 15 at most; a second length octet gives 17 to 238
+abbrev pub most_in_digit : ℕ
+most_in_digit = 15
+
+abbrev pub least_in_octet : ℕ
+least_in_octet = 17
+
+abbrev pub most_in_octet : ℕ
+most_in_octet = 238
+
+-- the length in the second octet; any other octet is no length
 abbrev pub second_length : List ℕ → Option ℕ
 second_length [] = None
-second_length (octet ∷ rest) = cond (nat_le 17 octet && nat_le octet 238) (Some octet) None
+second_length (octet ∷ rest) = cond (nat_le least_in_octet octet && nat_le octet most_in_octet) (Some octet) None
 
 -- whether the low digit of the first octet sends on to a second length octet
 abbrev pub has_second : ℕ → Bool

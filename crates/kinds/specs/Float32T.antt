@@ -2,7 +2,7 @@
 use Rattle.std.specs.Prelude.{◌≡◌, ℕ, true, List, [], ◌∷◌, pos, neg_ℤ, Option, from_bits, to_bits, Float}
 use Rattle.std.specs.Float.{binary32}
 use Rattle.std.specs.Float.Ieee.{add, sub, of_int}
-use Rattle.numbers.specs.Floats.{rank, proper, plain, distance, middle}
+use Rattle.numbers.specs.Floats.{rank, proper, plain, step, distance, middle}
 use Rattle.numbers.specs.Octets.{four}
 use Rattle.numbers.specs.Options.{when_some, when_true}
 use Rattle.numbers.proofs.Moves.{raised_proper, lowered_proper}
@@ -40,6 +40,7 @@ floats = record {
   rank = λ v. rank v.value;
   octets = octets_of;
   read = λ octets. when_some (four.number octets) read_pattern;
+  step = step;
   raised = raised;
   lowered = lowered;
   middle = middle_of;

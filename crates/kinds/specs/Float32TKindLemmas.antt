@@ -1,9 +1,8 @@
-use Rattle.std.specs.Prelude.{◌≡◌, ℕ, Bool, true, false, cond, pos, negsuc, ◌≤ℤ◌, ◌<ℤ◌, Some, Option, from_bits, int_le, Float}
+use Rattle.std.specs.Prelude.{◌≡◌, ℕ, Bool, true, false, cond, ◌≤ℤ◌, Some, Option, from_bits, int_le, Float}
 use Rattle.std.proofs.Common.{ap, ◌∙◌, subst}
 use Rattle.std.specs.Float.{binary32}
-use Rattle.std.specs.Float.Ieee.{of_int, to_bits}
+use Rattle.std.specs.Float.Ieee.{to_bits}
 use Rattle.std.specs.Float.Ieee.Bits.{to_bits-lt}
-use Rattle.std.specs.Int.Signed.{lt_z_yes}
 use Rattle.numbers.specs.Floats.{rank, proper, plain, middle}
 use Rattle.numbers.specs.Octets.{four}
 use Rattle.numbers.specs.Options.{when_some}
@@ -33,7 +32,3 @@ module _ (v w : Float32T) where
   pub high : (t : Bool) → int_le (rank v.value) (rank w.value) ≡ t → rank (middle v.value w.value) ≤ℤ rank (cond t w v).value
   high true e = subst (λ (x : Float). rank (middle v.value w.value) ≤ℤ rank x) (higher_is v.value w.value v.allowed w.allowed true e) (middle_under v.value w.value v.allowed w.allowed)
   high false e = subst (λ (x : Float). rank (middle v.value w.value) ≤ℤ rank x) (higher_is v.value w.value v.allowed w.allowed false e) (middle_under v.value w.value v.allowed w.allowed)
-
-pub apart : rank (of_int binary32 (negsuc 999999)) <ℤ rank (of_int binary32 (pos 1000000))
-unfolding of_int to_bits
-apart = lt_z_yes tt

@@ -1,5 +1,6 @@
 -- The rules that the makes of whole numbers share, stated once for every width.
-use Rattle.std.specs.Prelude.{ℕ, ◌^◌, ◌<◌, List, ℤ, pos, ◌+ℤ◌, ◌-ℤ◌, Some, Option}
+use Rattle.std.specs.Prelude.{ℕ, ◌^◌, ◌<◌, List, ℤ, pos, ◌+ℤ◌, ◌-ℤ◌, Some, Option, from_bits, Float}
+use Rattle.std.specs.Float.{binary32}
 use Rattle.std.specs.Int.Signed.{mag, shr_z}
 use Rattle.std.proofs.Common.{to_z, of_z}
 use Rattle.std.specs.Int.{saturate_to_bits, Width}
@@ -12,6 +13,10 @@ use Rattle.kinds.specs.Meaning.{Meaning}
 -- z fits a word of k bits and a sign: it lies from -2^k to 2^k - 1
 abbrev pub Within : ℕ → ℤ → Type 0
 Within k z = mag z < 2 ^ k
+
+-- what a step is worth, whatever the width: 1, whose pattern is 3F800000
+abbrev pub step : Float
+step = from_bits binary32 0x3f800000
 
 -- what sets one make of whole numbers apart from another
 pub record Make (V : Type 0) : Type 0 where
@@ -61,6 +66,7 @@ module _ {V : Type 0} (make : Make V) where
     rank = make.number;
     octets = octets_of;
     read = λ octets. when_some (make.coding.number octets) of_pattern;
+    step = step;
     raised = raised;
     lowered = lowered;
     middle = middle;

@@ -1,5 +1,5 @@
 -- Every make of whole numbers shows the laws, whatever its word.
-use Rattle.std.specs.Prelude.{◌≡◌, ℕ, ◌^◌, Bool, true, false, cond, ◌⊎◌, length, ℤ, pos, ◌+ℤ◌, ◌-ℤ◌, neg_ℤ, ◌≤ℤ◌, ◌<ℤ◌, Some, Option, int_le, refl}
+use Rattle.std.specs.Prelude.{◌≡◌, ℕ, ◌^◌, Bool, true, false, cond, ◌⊎◌, length, ℤ, pos, ◌+ℤ◌, ◌-ℤ◌, neg_ℤ, ◌≤ℤ◌, Some, Option, int_le, refl}
 use Rattle.std.proofs.Common.{sym, ap, ◌∙◌, subst, arith, of_z}
 use Rattle.std.proofs.Math.IntN.{+ℤ_idr}
 use Rattle.std.specs.Int.Signed.{shr_z, ≤ℤ_refl}
@@ -23,7 +23,6 @@ pub record Fit (V : Type 0) (make : Make V) : Type 0 where
   pub below_wide : length make.below ≡ make.coding.count
   pub above_wide : length make.above ≡ make.coding.count
   pub no_data_wide : length make.no_data ≡ make.coding.count
-  pub apart : make.number make.lowest <ℤ make.number make.highest
 
 module _ {V : Type 0} (make : Make V) (fit : Fit V make) where
   abbrev k : ℕ
@@ -85,5 +84,4 @@ module _ {V : Type 0} (make : Make V) (fit : Fit V make) where
     lowered_order = λ v w n h. stopped_order (number v -ℤ pos n) (number w -ℤ pos n) (add_order (number v) (number w) (neg_ℤ (pos n)) h);
     middle_low = λ v w. subst (λ (x : ℤ). number (lesser m v w) ≤ℤ x) (sym (fit.number_of _ _)) (low v w (int_le (number v) (number w)) refl);
     middle_high = λ v w. subst (λ (x : ℤ). x ≤ℤ number (greater m v w)) (sym (fit.number_of _ _)) (high v w (int_le (number v) (number w)) refl);
-    limits_apart = fit.apart;
   }

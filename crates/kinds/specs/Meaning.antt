@@ -1,5 +1,5 @@
 -- What the values of a kind mean, and the laws that every kind shows.
-use Rattle.std.specs.Prelude.{◌≡◌, ℕ, Bool, cond, ◌⊎◌, List, length, ℤ, ◌≤ℤ◌, ◌<ℤ◌, Some, Option, int_le, int_lt}
+use Rattle.std.specs.Prelude.{◌≡◌, ℕ, Bool, cond, ◌⊎◌, List, length, ℤ, ◌≤ℤ◌, Some, Option, int_le, int_lt, Float}
 
 pub record Meaning (V : Type 0) : Type 0 where
   -- how many octets a value has
@@ -9,6 +9,8 @@ pub record Meaning (V : Type 0) : Type 0 where
   -- the octets of a value, and the value that octets mean, if any
   pub octets : V → List ℕ
   pub read : List ℕ → Option V
+  -- what a step is worth
+  pub step : Float
   -- the value raised and lowered by a number of steps
   pub raised : V → ℕ → V
   pub lowered : V → ℕ → V
@@ -61,5 +63,3 @@ pub record Lawful (V : Type 0) (m : Meaning V) : Type 0 where
   -- a middle lies between its two values, whichever comes first
   pub middle_low : (v w : V) → m.rank (lesser m v w) ≤ℤ m.rank (m.middle v w)
   pub middle_high : (v w : V) → m.rank (m.middle v w) ≤ℤ m.rank (greater m v w)
-  -- the limits are apart
-  pub limits_apart : m.rank m.low_limit <ℤ m.rank m.high_limit

@@ -1,7 +1,7 @@
 // A kind of measured value. The core is written once over this trait.
 ghost use Rattle.kinds.specs.Meaning.{Lawful, Meaning, greater, lesser};
 ghost use Rattle.octets.specs.Buffers.{fitting, placed};
-ghost use Rattle.std.specs.Prelude.{◌≡◌, ℕ, Some, int_le, int_lt};
+ghost use Rattle.std.specs.Prelude.{◌≡◌, ℕ, Float, Some, int_le, int_lt};
 ghost use Rattle.std.specs.Ordering.{int_cmp};
 
 pub trait Kind: Copy + PartialOrd {
@@ -19,6 +19,8 @@ pub trait Kind: Copy + PartialOrd {
     ghost LOWEST_END: { Self };
 
     ghost HIGHEST_END: { Self };
+
+    ghost STEP: { Float };
 
     ghost meaning: { Meaning Self };
 
@@ -102,5 +104,5 @@ pub trait Kind: Copy + PartialOrd {
     ghost ranked: { (v w : Self) → Self.partial_cmp v w ≡ Some (int_cmp (meaning.rank v) (meaning.rank w)) };
 
     // The constants are the meaning's.
-    ghost constants: { (OCTET_WIDTH ≡ meaning.width) × (LOWEST_END ≡ meaning.low_limit) × (HIGHEST_END ≡ meaning.high_limit) };
+    ghost constants: { (OCTET_WIDTH ≡ meaning.width) × (LOWEST_END ≡ meaning.low_limit) × (HIGHEST_END ≡ meaning.high_limit) × (STEP ≡ meaning.step) };
 }

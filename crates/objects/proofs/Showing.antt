@@ -1,12 +1,10 @@
 -- What a read shows of a channel has from one to eight octets.
-use Rattle.std.proofs.Common.{ℕ, ◌≤◌, Bool, true, false, cond, eqb, List, ◌++◌, inl, inr, arith, length-append}
+use Rattle.std.proofs.Common.{◌≤◌, ◌++◌, inl, inr, arith, length-append}
 use Rattle.kinds.specs.Meaning.{Meaning, Lawful}
 use Rattle.channels.specs.declared.row.Row.{Row}
-use Rattle.objects.specs.Reads.{OneToEight, configuration_read, setpoints_read}
-
-either : (b : Bool) (xs ys : List ℕ) → OneToEight xs → OneToEight ys → OneToEight (cond b xs ys)
-either true xs ys h k = h
-either false xs ys h k = k
+use Rattle.objects.specs.declared.part.Part.{Part}
+use Rattle.objects.specs.declared.part.Part.TheVariants.{Setpoints, Sp1, Sp2, Configuration, Logic, Mode, Hysteresis}
+use Rattle.objects.specs.Reads.{OneToEight, part_read}
 
 module _ {V : Type 0} (m : Meaning V) (l : Lawful V m) where
   narrow : (2 ≤ m.width) × (m.width ≤ 4)
@@ -20,12 +18,11 @@ module _ {V : Type 0} (m : Meaning V) (l : Lawful V m) where
       let all = length-append (m.octets v) (m.octets w) in
       (omega (arith, all, l.octets_wide v, l.octets_wide w, narrow), omega (arith, all, l.octets_wide v, l.octets_wide w, narrow))
 
-  pub setpoints_shown : (sub : ℕ) (r : Row V) → OneToEight (setpoints_read m sub r)
-  setpoints_shown sub r = either (eqb sub 0) _ _ (both r.sp1 r.sp2) (either (eqb sub 1) _ _ (one r.sp1) (one r.sp2))
-
-module _ {V : Type 0} where
-  pub configuration_shown : (sub : ℕ) (r : Row V) → OneToEight (configuration_read sub r)
-  configuration_shown sub r =
-      either (eqb sub 0) _ _ (omega arith, omega arith)
-      (either (eqb sub 1) _ _ (omega arith, omega arith)
-      (either (eqb sub 2) _ _ (omega arith, omega arith) (omega arith, omega arith)))
+  pub part_shown : (p : Part) (r : Row V) → OneToEight (part_read m p r)
+  part_shown Setpoints r = both r.sp1 r.sp2
+  part_shown Sp1 r = one r.sp1
+  part_shown Sp2 r = one r.sp2
+  part_shown Configuration r = (omega arith, omega arith)
+  part_shown Logic r = (omega arith, omega arith)
+  part_shown Mode r = (omega arith, omega arith)
+  part_shown Hysteresis r = (omega arith, omega arith)

@@ -1,3 +1,5 @@
+pub mod Lent
 pub mod Objects
+pub mod Parts
 pub mod Reads
 pub mod Writes

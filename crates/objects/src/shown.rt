@@ -1,8 +1,9 @@
 // What a read shows of a channel.
-ghost use Rattle.objects.specs.Reads.{configuration_read, setpoints_read};
+ghost use Rattle.objects.specs.Reads.{part_read};
 ghost use Rattle.octets.specs.Buffers.{fitting, placed};
 ghost use Rattle.std.specs.Prelude.{◌≡◌, ◌++◌};
 
+use super::part::Part;
 use channels::row::Row;
 use kinds::kind::Kind;
 use octets::put;
@@ -22,28 +23,19 @@ fn write_both<K: Kind>(a: K, b: K, out: &mut [u8]) -> Option<usize>
     Some(2 * width)
 }
 
-// The setpoints of a row, or one of them.
-pub fn read_setpoints<K: Kind>(row: Row<K>, subindex: u8, out: &mut [u8]) -> Option<usize>
-    ensures answer { result ≡ fitting (setpoints_read K.meaning subindex row) out.old }
-    ensures buffer { out.new ≡ placed (setpoints_read K.meaning subindex row) out.old }
-{
-    match subindex {
-        0 => write_both(row.sp1, row.sp2, out),
-        1 => row.sp1.write(out),
-        _ => row.sp2.write(out),
-    }
-}
-
-// The configuration of a row, or a part of it.
-pub fn read_configuration<K: Kind>(row: Row<K>, subindex: u8, out: &mut [u8]) -> Option<usize>
-    ensures answer { result ≡ fitting (configuration_read subindex row) out.old }
-    ensures buffer { out.new ≡ placed (configuration_read subindex row) out.old }
+// Writes the octets of a part of a row to the front of `out`, and answers how many they are. Without room it writes nothing.
+pub fn read_part<K: Kind>(row: Row<K>, part: Part, out: &mut [u8]) -> Option<usize>
+    ensures answer { result ≡ fitting (part_read K.meaning part row) out.old }
+    ensures buffer { out.new ≡ placed (part_read K.meaning part row) out.old }
 {
     let [high, low] = row.hysteresis.to_be_bytes();
-    match subindex {
-        0 => put(&[row.logic, row.mode, high, low], out),
-        1 => put(&[row.logic], out),
-        2 => put(&[row.mode], out),
-        _ => put(&[high, low], out),
+    match part {
+        Part::Setpoints => write_both(row.sp1, row.sp2, out),
+        Part::Sp1 => row.sp1.write(out),
+        Part::Sp2 => row.sp2.write(out),
+        Part::Configuration => put(&[row.logic, row.mode, high, low], out),
+        Part::Logic => put(&[row.logic], out),
+        Part::Mode => put(&[row.mode], out),
+        Part::Hysteresis => put(&[high, low], out),
     }
 }

@@ -1,4 +1,6 @@
 mod Behind
+pub mod Orders
 mod Reading
+mod Responses
 mod Sizes
-mod Writing
+pub mod Starting

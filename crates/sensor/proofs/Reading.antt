@@ -4,24 +4,23 @@ use Rattle.kinds.specs.Meaning.{Meaning, Lawful}
 use Rattle.channels.specs.declared.row.Row.{Row}
 use Rattle.channels.specs.declared.table.Table.{Table}
 use Rattle.channels.specs.Table.{has_channel, nth, row_at}
-use Rattle.objects.specs.declared.object.Object.{Object}
-use Rattle.objects.specs.declared.object.Object.TheVariants.{SystemCommand, TeachSelect, TeachResult, Setpoints, Configuration}
+use Rattle.objects.specs.declared.access.Shown.{Shown}
+use Rattle.objects.specs.declared.access.Shown.TheVariants.{Selected, TeachResult, Channel}
+use Rattle.objects.specs.Objects.{ShownHasRow}
+use Rattle.objects.specs.Reads.{OneToEight, part_read, row_read}
+use Rattle.objects.proofs.Showing.{part_shown}
 use Rattle.sensor.specs.declared.device.Device.{Device}
-use Rattle.objects.specs.Reads.{OneToEight, Readable, configuration_read, row_read, setpoints_read}
-use Rattle.objects.proofs.Showing.{configuration_shown, setpoints_shown}
-use Rattle.sensor.specs.Access.{read_octets}
+use Rattle.sensor.specs.Requests.{octets_shown}
 
 module _ {V : Type 0} (m : Meaning V) (l : Lawful V m) where
   row_shown : (f : Row V → List ℕ) → ((r : Row V) → OneToEight (f r)) → (o : Option (Row V)) → is_some o ≡ true → OneToEight (row_read f o)
   row_shown f h None e = absurd (let z : ◌≡◌ {A = ℕ} 0 1 = cc in omega arith)
   row_shown f h (Some r) e = h r
 
-  pub read_shown : (d : Device V) (o : Object) (sub : ℕ) → Readable d.channels o → OneToEight (read_octets m d o sub)
-  read_shown d SystemCommand sub h = absurd (let e = h.0 in let z : ◌≡◌ {A = ℕ} 0 1 = cc in omega arith)
-  read_shown d TeachSelect sub h = (omega arith, omega arith)
-  read_shown d TeachResult sub h = (omega arith, omega arith)
-  read_shown d (Setpoints k) sub h = row_shown (setpoints_read m sub) (setpoints_shown m l sub) (row_at d.channels k) h.1
-  read_shown d (Configuration k) sub h = row_shown (configuration_read sub) (configuration_shown sub) (row_at d.channels k) h.1
+  pub read_shown : (d : Device V) (shown : Shown) → ShownHasRow d.channels shown → OneToEight (octets_shown m d shown)
+  read_shown d Selected h = (omega arith, omega arith)
+  read_shown d TeachResult h = (omega arith, omega arith)
+  read_shown d (Channel k p) h = row_shown (part_read m p) (part_shown m l p) (row_at d.channels k) h
 
 module _ {V : Type 0} where
   nth_some : (rows : List (Row V)) (j : ℕ) (d : Row V) → is_some (nth rows j) ≡ true → Some (slice_index_or rows j d) ≡ nth rows j

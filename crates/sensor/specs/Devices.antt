@@ -1,47 +1,58 @@
--- Parts of a sensor.
-use Rattle.std.specs.Prelude.{ℕ, List, [], Some, None, Option}
+-- What accepted calls do to a device.
+use Rattle.std.specs.Prelude.{ℕ, Bool, List, [], ◌∷◌, Some, None, Option}
 use Rattle.channels.specs.declared.row.Row.{Row}
 use Rattle.channels.specs.declared.table.Table.{Table}
-use Rattle.channels.specs.Rows.{with_sp1, with_sp2}
-use Rattle.channels.specs.Table.{present, row_at, with_row}
+use Rattle.channels.specs.Table.{rested_table, row_at, with_row}
 use Rattle.teach.specs.declared.command.Setpoint.{Setpoint}
 use Rattle.teach.specs.declared.command.Setpoint.TheVariants.{Sp1, Sp2}
 use Rattle.teach.specs.declared.teaching.Store.{Store}
-use Rattle.teach.specs.declared.teaching.Teach.{Teach}
+use Rattle.teach.specs.Machine.{Moved}
+use Rattle.teach.specs.Teaching.{idle, stepped, store_of}
+use Rattle.objects.specs.Writes.{Setting, sets_sp1, sets_sp2, with_settings}
 use Rattle.sensor.specs.declared.device.Device.{Device}
-use Rattle.sensor.specs.declared.sensor.Sensor.{Sensor}
 
 module _ {V : Type 0} where
-  -- the device with another channel table, all else as it was
+  abbrev pub on_row : Table V → ℕ → List (Setting V) → Option (Row V) → Table V
+  on_row t k ss None = t
+  on_row t k ss (Some r) = with_row t k (with_settings r ss)
+
+  -- the table with settings of channel k changed: no other channel changes
+  abbrev pub given : Table V → ℕ → List (Setting V) → Table V
+  given t k ss = on_row t k ss (row_at t k)
+
+  abbrev pub setpoint_setting : Setpoint → V → Setting V
+  setpoint_setting Sp1 v = sets_sp1 v
+  setpoint_setting Sp2 v = sets_sp2 v
+
+  -- a setpoint with its value, as settings
+  abbrev pub store_settings : Store V → List (Setting V)
+  store_settings s = setpoint_setting s.setpoint s.value ∷ []
+
+  -- what an evaluation stores, if anything
+  abbrev pub stored_settings : Option (Store V) → List (Setting V)
+  stored_settings None = []
+  stored_settings (Some s) = store_settings s
+
+  -- it goes to channel k
+  abbrev pub stored : Table V → ℕ → Option (Store V) → Table V
+  stored t k None = t
+  stored t k (Some s) = given t k (store_settings s)
+
   abbrev pub with_channels : Device V → Table V → Device V
   with_channels d t = record d { channels = t }
 
-  -- the device with another teach
-  abbrev pub with_teach : Device V → Teach V → Device V
-  with_teach d t = record d { teach = t }
+  abbrev pub with_keypad : Device V → Bool → Device V
+  with_keypad d b = record d { keypad = b }
 
-  -- a row with another setpoint: all its other settings and its state stay
-  abbrev pub with_setpoint : Row V → Setpoint → V → Row V
-  with_setpoint r Sp1 v = with_sp1 r v
-  with_setpoint r Sp2 v = with_sp2 r v
+  -- a step of the teach; what it stores goes to the selected channel
+  abbrev pub taken : Device V → Moved V → Device V
+  taken d x = record d { teach = stepped d.teach x; channels = stored d.channels d.selected (store_of x.effect.verdict) }
 
-  abbrev pub put_setpoint : Table V → ℕ → Option (Row V) → Setpoint → V → Table V
-  put_setpoint t k None sp v = t
-  put_setpoint t k (Some r) sp v = with_row t k (with_setpoint r sp v)
+  -- a select drops the teach, and clears flags, TeachState and what was taught
+  abbrev pub selecting : Device V → ℕ → Device V
+  selecting d k = record d { selected = k; teach = idle }
 
-  -- the table with a setpoint of channel k stored: no other channel changes
-  abbrev pub with_stored : Table V → ℕ → Setpoint → V → Table V
-  with_stored t k sp v = put_setpoint t k (row_at t k) sp v
-
-  -- a store goes to the selected channel
-  abbrev pub stored : Device V → Option (Store V) → Device V
-  stored d None = d
-  stored d (Some s) = with_channels d (with_stored d.channels d.selected s.setpoint s.value)
-
-  abbrev rows_in : Option (Device V) → List (Row V)
-  rows_in None = []
-  rows_in (Some d) = present d.channels
-
-  -- the channels of a sensor, channel 1 first: none on a blank sensor
-  abbrev pub channels_of : Sensor V → List (Row V)
-  channels_of s = rows_in s.device
+  -- a warm restart: every channel is inactive and keeps its settings, channel 1 is selected as by a select; a keypad operation
+  -- stays open
+  abbrev pub restarted : Device V → Device V
+  restarted d = selecting (with_channels d (rested_table d.channels)) 1

@@ -1,8 +1,9 @@
-pub mod Access
+pub mod Answers
 pub mod Calls
 pub mod Devices
 pub mod Keypad
+pub mod Lent
 pub mod Requests
-pub mod Restarts
+pub mod Rules
 pub mod Samples
 pub mod Setups

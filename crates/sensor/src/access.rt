@@ -1,12 +1,19 @@
 // What a write does to the device.
-ghost use Rattle.sensor.specs.Access.{commanded, device_or, past_count, selected_by, with_selection, write_reply_of, written};
+ghost use Rattle.channels.specs.Table.{row_at};
+ghost use Rattle.objects.specs.Lent.{lent_content, lent_written};
+ghost use Rattle.objects.specs.Objects.{HasRow, WrittenHasRow};
+ghost use Rattle.objects.specs.declared.access.Written.TheVariants as Written;
+ghost use Rattle.sensor.specs.Answers.{plain};
+ghost use Rattle.sensor.specs.Devices.{selecting};
+ghost use Rattle.sensor.specs.Requests.{past_count, select_asked, write_asked};
+ghost use Rattle.sensor.specs.Rules.{carried, device_by};
 ghost use Rattle.std.specs.Prelude.{◌≡◌};
 
 use super::device::Device;
 use faults::{Denial, Fault, Place};
 use kinds::kind::Kind;
-use objects::object::Object;
-use objects::value::{single, write_configuration, write_setpoints};
+use objects::access::{Content, Written};
+use objects::value::write_content;
 use teach::teaching::Teach;
 
 impl<K: Kind> Device<K> {
@@ -15,8 +22,8 @@ impl<K: Kind> Device<K> {
 
     // A command to the teach of the selected channel.
     fn command(&mut self, code: u8, place: Place) -> Result<(), Fault>
-        ensures reply { result ≡ write_reply_of (commanded K.meaning self.old place code) }
-        ensures device { self.new ≡ device_or self.old (commanded K.meaning self.old place code) }
+        ensures reply { result ≡ plain (carried K.meaning self.old (write_asked K.meaning self.old place (Written.Command code))) }
+        ensures device { self.new ≡ device_by K.meaning self.old (carried K.meaning self.old (write_asked K.meaning self.old place (Written.Command code))) }
     {
         let store = self.teach.command(self.terms, code, place)?;
         self.store(store);
@@ -25,7 +32,7 @@ impl<K: Kind> Device<K> {
 
     // Turns to a channel, which drops the teach.
     pub(crate) fn turn_to(&mut self, channel: u8)
-        ensures { self.new ≡ with_selection self.old channel }
+        ensures { self.new ≡ selecting self.old channel }
     {
         self.selected = channel;
         self.teach = Teach::idle();
@@ -39,8 +46,8 @@ impl<K: Kind> Device<K> {
 
     // Selects a channel; 0 means channel 1.
     fn select(&mut self, channel: u8, place: Place) -> Result<(), Fault>
-        ensures reply { result ≡ write_reply_of (selected_by self.old place channel) }
-        ensures device { self.new ≡ device_or self.old (selected_by self.old place channel) }
+        ensures reply { result ≡ plain (carried K.meaning self.old (select_asked self.old place channel)) }
+        ensures device { self.new ≡ device_by K.meaning self.old (carried K.meaning self.old (select_asked self.old place channel)) }
     {
         if self.is_past_count(channel) {
             return Err(Fault::at(Denial::NoValue, place));
@@ -49,47 +56,28 @@ impl<K: Kind> Device<K> {
         Ok(())
     }
 
-    // Two functions: with a closure for the one call that differs, the contract could say what holds of its answer, and not
-    // which row is written.
-    fn set_setpoints(&mut self, channel: u8, place: Place, octets: &[u8]) -> Result<(), Fault>
-        ensures reply { result ≡ write_reply_of (written K.meaning self.old place (Object.Setpoints channel) octets.now) }
-        ensures device { self.new ≡ device_or self.old (written K.meaning self.old place (Object.Setpoints channel) octets.now) }
+    // Changes settings of a channel that is present.
+    fn change(&mut self, channel: u8, content: Content<&[u8]>, place: Place) -> Result<(), Fault>
+        requires { HasRow self.old.channels channel }
+        ensures reply { result ≡ plain (carried K.meaning self.old (write_asked K.meaning self.old place (Written.Channel channel (lent_content content.entry)))) }
+        ensures device { self.new ≡ device_by K.meaning self.old (carried K.meaning self.old (write_asked K.meaning self.old place (Written.Channel channel (lent_content content.entry)))) }
     {
-        if let Some(row) = self.channels.row(channel) {
-            let row = write_setpoints(row, octets, self.range, place)?;
-            self.channels.replace(channel, row);
-        }
+        let row = self.present_row(channel);
+        let row = write_content(row, content, self.range, place.index)?;
+        self.channels.replace(channel, row);
         Ok(())
     }
 
-    fn set_configuration(&mut self, channel: u8, place: Place, octets: &[u8]) -> Result<(), Fault>
-        ensures reply { result ≡ write_reply_of (written K.meaning self.old place (Object.Configuration channel) octets.now) }
-        ensures device { self.new ≡ device_or self.old (written K.meaning self.old place (Object.Configuration channel) octets.now) }
+    // Writes what a request brings. A denied write changes nothing.
+    pub(crate) fn write(&mut self, written: Written<&[u8]>, place: Place) -> Result<(), Fault>
+        requires { WrittenHasRow self.old.channels written }
+        ensures reply { result ≡ plain (carried K.meaning self.old (write_asked K.meaning self.old place (lent_written written.entry))) }
+        ensures device { self.new ≡ device_by K.meaning self.old (carried K.meaning self.old (write_asked K.meaning self.old place (lent_written written.entry))) }
     {
-        if let Some(row) = self.channels.row(channel) {
-            let row = write_configuration(row, octets, place)?;
-            self.channels.replace(channel, row);
-        }
-        Ok(())
-    }
-
-    // Writes an object that passed the checks of its access. A denied write changes nothing.
-    pub(crate) fn write(&mut self, object: Object, place: Place, octets: &[u8]) -> Result<(), Fault>
-        ensures reply { result ≡ write_reply_of (written K.meaning self.old place object octets.now) }
-        ensures device { self.new ≡ device_or self.old (written K.meaning self.old place object octets.now) }
-    {
-        match object {
-            Object::SystemCommand => match single(octets) {
-                Some(code) => self.command(code, place),
-                None => Ok(()),
-            },
-            Object::TeachSelect => match single(octets) {
-                Some(channel) => self.select(channel, place),
-                None => Ok(()),
-            },
-            Object::TeachResult => Ok(()),
-            Object::Setpoints(channel) => self.set_setpoints(channel, place, octets),
-            Object::Configuration(channel) => self.set_configuration(channel, place, octets),
+        match written {
+            Written::Command(code) => self.command(code, place),
+            Written::Select(channel) => self.select(channel, place),
+            Written::Channel(channel, content) => self.change(channel, content, place),
         }
     }
 }

@@ -1,8 +1,12 @@
 // What a sensor holds once it is set up.
-ghost use Rattle.channels.specs.Table.{signals_octet};
-ghost use Rattle.sensor.specs.Devices.{stored, with_channels, with_stored};
-ghost use Rattle.sensor.specs.Samples.{device_after, device_buffer, device_reply, fed_device, judged_by};
-ghost use Rattle.std.specs.Prelude.{◌≡◌};
+ghost use Rattle.channels.specs.Table.{judged_table, signals_octet};
+ghost use Rattle.sensor.specs.Answers.{counted};
+ghost use Rattle.sensor.specs.Calls.{samples};
+ghost use Rattle.sensor.specs.Devices.{given, setpoint_setting, stored, taken, with_channels};
+ghost use Rattle.sensor.specs.Rules.{carried, device_by, done, sample_written};
+ghost use Rattle.sensor.specs.Samples.{heard, sample_asked};
+ghost use Rattle.octets.specs.Buffers.{over};
+ghost use Rattle.std.specs.Prelude.{◌≡◌, [], ◌∷◌, length, Some};
 
 use channels::range::Range;
 use channels::reading::{Reading, block_length};
@@ -31,7 +35,7 @@ pub struct Device<K> {
 impl<K: Kind> Device<K> {
     // Gives a channel another setpoint; one that is not present stays away.
     pub(crate) fn put_setpoint(&mut self, channel: u8, setpoint: Setpoint, value: K)
-        ensures { self.new ≡ with_channels self.old (with_stored self.old.channels channel setpoint value) }
+        ensures { self.new ≡ with_channels self.old (given self.old.channels channel (setpoint_setting setpoint value ∷ [])) }
     {
         let Some(mut row) = self.channels.row(channel) else {
             return;
@@ -45,7 +49,7 @@ impl<K: Kind> Device<K> {
 
     // Stores a setpoint that was taught, in the selected channel.
     pub(crate) fn store(&mut self, store: Option<Store<K>>)
-        ensures { self.new ≡ stored self.old store }
+        ensures { self.new ≡ with_channels self.old (stored self.old.channels self.old.selected store) }
     {
         if let Some(store) = store {
             self.put_setpoint(self.selected, store.setpoint, store.value);
@@ -54,7 +58,7 @@ impl<K: Kind> Device<K> {
 
     // Feeds the teach: only a value is captured.
     fn feed(&mut self, reading: Reading<K>)
-        ensures { self.new ≡ fed_device K.meaning self.old reading }
+        ensures { self.new ≡ taken self.old (heard K.meaning self.old reading) }
     {
         if let Reading::Value(v) = reading {
             let store = self.teach.feed(self.terms, v);
@@ -64,8 +68,8 @@ impl<K: Kind> Device<K> {
 
     // Judges every channel by its settings before the call, then feeds the teach. Answers the octet of signals.
     fn judge_and_feed(&mut self, reading: Reading<K>) -> u8
-        ensures signals { result ≡ signals_octet (judged_by K.meaning self.old reading).channels }
-        ensures device { self.new ≡ fed_device K.meaning (judged_by K.meaning self.old reading) reading }
+        ensures signals { result ≡ signals_octet (judged_table K.meaning reading self.old.channels) }
+        ensures device { self.new ≡ done K.meaning self.old (samples reading (heard K.meaning self.old reading)) }
     {
         let signals = self.channels.pass(reading);
         self.feed(reading);
@@ -74,9 +78,9 @@ impl<K: Kind> Device<K> {
 
     // Judges every channel by the reading, feeds the teach, and writes process data.
     pub(crate) fn sample(&mut self, reading: Reading<K>, out: &mut [u8]) -> Result<usize, Fault>
-        ensures reply { result ≡ device_reply K.meaning out.old }
-        ensures device { self.new ≡ device_after K.meaning self.old reading out.old }
-        ensures buffer { out.new ≡ device_buffer K.meaning self.old reading out.old }
+        ensures reply { let x = carried K.meaning self.old (sample_asked K.meaning self.old (Some reading) (length out.old)) in result ≡ counted (sample_written K.meaning self.old x) x }
+        ensures device { self.new ≡ device_by K.meaning self.old (carried K.meaning self.old (sample_asked K.meaning self.old (Some reading) (length out.old))) }
+        ensures buffer { out.new ≡ over (sample_written K.meaning self.old (carried K.meaning self.old (sample_asked K.meaning self.old (Some reading) (length out.old)))) out.old }
     {
         if out.len() < block_length::<K>() {
             return Err(Fault::of(Denial::BufferTooShort));

@@ -1,6 +1,9 @@
 // Keypad operations: a ticket is given at the opening, and must come back to close.
-ghost use Rattle.sensor.specs.Access.{device_or, write_reply_of};
-ghost use Rattle.sensor.specs.Keypad.{bears_serial, close_after, close_reply, closed, closed_or, keypad_checked, keypad_write_after, keypad_write_reply, keypad_written, open_after, open_reply, opened, serial_of, setpoint_found, setpoint_named, ticket_checked, ticket_or};
+ghost use Rattle.objects.specs.Writes.{setpoint_checked};
+ghost use Rattle.sensor.specs.Answers.{plain, returned, ticketed};
+ghost use Rattle.sensor.specs.Calls.{close_keypad, open_keypad, write_keypad};
+ghost use Rattle.sensor.specs.Keypad.{bears, close_asked, keypad_asked, keypad_checked, open_asked, serial_of, setpoint_found, setpoint_named, ticket_checked};
+ghost use Rattle.sensor.specs.Rules.{carried, checked, device_by, next, serial as serial_number};
 ghost use Rattle.std.specs.Prelude.{◌≡◌, true};
 
 use super::device::Device;
@@ -45,7 +48,7 @@ impl Ticket {
 
     // Only the serial number is compared.
     fn bears(&self, serial: u32) -> bool
-        ensures { result ≡ bears_serial self.now serial }
+        ensures { result ≡ bears (serial_of self.now) serial }
     {
         serial == self.serial
     }
@@ -71,8 +74,8 @@ fn name_setpoint(number: u8) -> Result<Setpoint, Fault>
 impl<K: Kind> Device<K> {
     // The checks of an opening, 22 and 23, and its ticket.
     fn open_keypad(&mut self) -> Result<Ticket, Fault>
-        ensures reply { result ≡ ticket_or (opened self.old) }
-        ensures device { self.new ≡ device_or self.old (opened self.old) }
+        ensures reply { result ≡ ticketed self.old.serial (carried K.meaning self.old (open_asked self.old)) }
+        ensures device { self.new ≡ device_by K.meaning self.old (carried K.meaning self.old (open_asked self.old)) }
     {
         if self.keypad {
             return Err(Fault::of(Denial::AlreadyOpen));
@@ -89,7 +92,7 @@ impl<K: Kind> Device<K> {
 
     // The checks of a ticket: 24 and 25.
     fn check_ticket(&self, ticket: &Ticket) -> Result<(), Fault>
-        ensures { result ≡ ticket_checked ticket.now self.now }
+        ensures { result ≡ ticket_checked self.now (serial_of ticket.now) }
     {
         if !ticket.bears(self.serial) {
             return Err(Fault::of(Denial::OtherSerial));
@@ -118,7 +121,7 @@ impl<K: Kind> Device<K> {
         setpoint: u8,
         octets: &[u8],
     ) -> Result<Store<K>, Fault>
-        ensures { result ≡ keypad_checked K.meaning ticket.now channel setpoint octets.now self.now }
+        ensures { result ≡ keypad_checked K.meaning self.now (serial_of ticket.now) channel setpoint octets.now }
     {
         self.check_ticket(ticket)?;
         let setpoint = self.find_setpoint(channel, setpoint)?;
@@ -133,8 +136,8 @@ impl<K: Kind> Device<K> {
         setpoint: u8,
         octets: &[u8],
     ) -> Result<(), Fault>
-        ensures reply { result ≡ write_reply_of (keypad_written K.meaning ticket.now channel setpoint octets.now self.old) }
-        ensures device { self.new ≡ device_or self.old (keypad_written K.meaning ticket.now channel setpoint octets.now self.old) }
+        ensures reply { result ≡ plain (carried K.meaning self.old (keypad_asked K.meaning self.old (serial_of ticket.now) channel setpoint octets.now)) }
+        ensures device { self.new ≡ device_by K.meaning self.old (carried K.meaning self.old (keypad_asked K.meaning self.old (serial_of ticket.now) channel setpoint octets.now)) }
     {
         let store = self.check_keypad_write(ticket, channel, setpoint, octets)?;
         self.put_setpoint(channel, store.setpoint, store.value);
@@ -142,8 +145,8 @@ impl<K: Kind> Device<K> {
     }
 
     fn close_keypad(&mut self, mut ticket: Ticket) -> Result<(), Unclosed>
-        ensures reply { result ≡ closed_or ticket (closed ticket self.old) }
-        ensures device { self.new ≡ device_or self.old (closed ticket self.old) }
+        ensures reply { result ≡ returned ticket (carried K.meaning self.old (close_asked self.old (serial_of ticket))) }
+        ensures device { self.new ≡ device_by K.meaning self.old (carried K.meaning self.old (close_asked self.old (serial_of ticket))) }
     {
         if let Err(fault) = self.check_ticket(&ticket) {
             return Err(Unclosed { fault, ticket });
@@ -154,11 +157,12 @@ impl<K: Kind> Device<K> {
     }
 }
 
+#[tactic(auto, unfolding(crate::specs::Rules::checked))]
 impl<K: Kind> Sensor<K> {
     // Opens a keypad operation. The ticket must come back to close it. A denied opening changes nothing.
     pub fn open_keypad(&mut self) -> Result<Ticket, Fault>
-        ensures reply { result ≡ open_reply self.old }
-        ensures sensor { self.new ≡ open_after self.old }
+        ensures reply { result ≡ ticketed (serial_number self.old) (checked K.meaning self.old open_keypad) }
+        ensures sensor { self.new ≡ next K.meaning self.old open_keypad }
     {
         let device = self.device.as_mut().ok_or(Denial::Blank)?;
         device.open_keypad()
@@ -173,8 +177,8 @@ impl<K: Kind> Sensor<K> {
         setpoint: u8,
         octets: &[u8],
     ) -> Result<(), Fault>
-        ensures reply { result ≡ keypad_write_reply K.meaning self.old ticket.now channel setpoint octets.now }
-        ensures sensor { self.new ≡ keypad_write_after K.meaning self.old ticket.now channel setpoint octets.now }
+        ensures reply { result ≡ plain (checked K.meaning self.old (write_keypad (serial_of ticket.now) channel setpoint octets.now)) }
+        ensures sensor { self.new ≡ next K.meaning self.old (write_keypad (serial_of ticket.now) channel setpoint octets.now) }
     {
         let device = self.device.as_mut().ok_or(Denial::Blank)?;
         device.keypad_write(ticket, channel, setpoint, octets)
@@ -183,8 +187,8 @@ impl<K: Kind> Sensor<K> {
     // Closes the keypad operation and spends its ticket. A denied closing changes nothing and hands the ticket back, which
     // `ok_or` would take.
     pub fn close_keypad(&mut self, ticket: Ticket) -> Result<(), Unclosed>
-        ensures reply { result ≡ close_reply self.old ticket }
-        ensures sensor { self.new ≡ close_after self.old ticket }
+        ensures reply { result ≡ returned ticket (checked K.meaning self.old (close_keypad (serial_of ticket))) }
+        ensures sensor { self.new ≡ next K.meaning self.old (close_keypad (serial_of ticket)) }
     {
         match &mut self.device {
             Some(device) => device.close_keypad(ticket),

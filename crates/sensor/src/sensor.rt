@@ -1,10 +1,13 @@
 // The sensor and its calls.
 ghost use Rattle.objects.specs.Objects.{from_to};
-ghost use Rattle.sensor.specs.Devices.{channels_of};
-ghost use Rattle.sensor.specs.Requests.{FrameIsShown, request_after, request_buffer, request_reply};
-ghost use Rattle.sensor.specs.Samples.{decoded, sample_after, sample_buffer, sample_reply};
-ghost use Rattle.sensor.specs.Setups.{fresh_device, keypad_open, lawful_range, set_up_after, set_up_checked, set_up_reply};
-ghost use Rattle.std.specs.Prelude.{◌≡◌, None, IfSome};
+ghost use Rattle.octets.specs.Buffers.{over};
+ghost use Rattle.sensor.specs.Answers.{ShowsOneToEight, counted, plain};
+ghost use Rattle.sensor.specs.Calls.{request, sample, set_up};
+ghost use Rattle.sensor.specs.Lent.{lent_reading, lent_setup};
+ghost use Rattle.sensor.specs.Rules.{blank, channels_of, checked, keypad_open, next, written};
+ghost use Rattle.sensor.specs.Samples.{reading_of};
+ghost use Rattle.sensor.specs.Setups.{fresh_device, lawful_range, set_up_checked};
+ghost use Rattle.std.specs.Prelude.{◌≡◌, length, IfOk};
 
 use super::device::Device;
 use super::setup::Setup;
@@ -31,7 +34,7 @@ fn is_from_to(n: u8, first: u8, last: u8) -> bool
 
 // Whether both ends lie within the kind's limits, the low one below the high one.
 fn range_lawful<K: Kind>(range: Range<K>) -> bool
-    ensures { result ≡ lawful_range K.meaning range.low range.high }
+    ensures { result ≡ lawful_range K.meaning range }
 {
     range.low.is_under(range.high)
         && K::low_limit().at_most(range.low)
@@ -43,7 +46,7 @@ fn range_lawful<K: Kind>(range: Range<K>) -> bool
 // The reading that octets bring; none where they are no value. A `map` of readings and its `transpose` would each have these
 // four arms.
 fn decode_reading<K: Kind>(reading: Reading<&[u8]>) -> Option<Reading<K>>
-    ensures { result ≡ decoded K.meaning reading.entry }
+    ensures { result ≡ reading_of K.meaning (lent_reading reading.entry) }
 {
     match reading {
         Reading::Value(octets) => K::read(octets).map(Reading::Value),
@@ -55,7 +58,7 @@ fn decode_reading<K: Kind>(reading: Reading<&[u8]>) -> Option<Reading<K>>
 
 // The device after set-up.
 fn fresh<K: Kind>(setup: &Setup<&[u8]>, range: Range<K>) -> Device<K>
-    ensures { result ≡ fresh_device setup.now range.low range.high }
+    ensures { result ≡ fresh_device (lent_setup setup.now) range }
 {
     Device {
         serial: setup.serial,
@@ -69,15 +72,17 @@ fn fresh<K: Kind>(setup: &Setup<&[u8]>, range: Range<K>) -> Device<K>
     }
 }
 
+#[tactic(auto, unfolding(crate::specs::Rules::checked))]
 impl<K: Kind> Sensor<K> {
     // A sensor that is not set up.
     pub const fn blank() -> Sensor<K>
-        ensures { result.device ≡ None }
+        ensures { result ≡ blank }
     {
         Sensor { device: None }
     }
 
-    fn keypad_open(&self) -> bool
+    // Whether a keypad operation is open: never on a blank sensor.
+    pub fn is_keypad_open(&self) -> bool
         ensures { result ≡ keypad_open self.now }
     {
         // `is_some_and` was tried: that the borrow handed to its closure has room stayed open.
@@ -89,9 +94,9 @@ impl<K: Kind> Sensor<K> {
 
     // The checks of a set-up, in their order, and the device that it gives.
     fn checked(&self, setup: &Setup<&[u8]>) -> Result<Device<K>, Fault>
-        ensures { result ≡ set_up_checked K.meaning self.now setup.now }
+        ensures { result ≡ set_up_checked K.meaning (keypad_open self.now) (lent_setup setup.now) }
     {
-        if self.keypad_open() {
+        if self.is_keypad_open() {
             return Err(Fault::of(Denial::SetupUnderKeypad));
         }
         if !is_from_to(setup.channels, 1, 8) {
@@ -111,8 +116,8 @@ impl<K: Kind> Sensor<K> {
 
     // Sets the sensor up anew. A denied set-up changes nothing.
     pub fn set_up(&mut self, setup: &Setup<&[u8]>) -> Result<(), Fault>
-        ensures reply { result ≡ set_up_reply K.meaning self.old setup.now }
-        ensures sensor { self.new ≡ set_up_after K.meaning self.old setup.now }
+        ensures reply { result ≡ plain (checked K.meaning self.old (set_up (lent_setup setup.now))) }
+        ensures sensor { self.new ≡ next K.meaning self.old (set_up (lent_setup setup.now)) }
     {
         self.device = Some(self.checked(setup)?);
         Ok(())
@@ -120,9 +125,9 @@ impl<K: Kind> Sensor<K> {
 
     // Judges every channel by the reading, feeds the teach and writes process data. A denied sample changes and writes nothing.
     pub fn sample(&mut self, reading: Reading<&[u8]>, out: &mut [u8]) -> Result<usize, Fault>
-        ensures reply { result ≡ sample_reply K.meaning self.old reading.entry out.old }
-        ensures sensor { self.new ≡ sample_after K.meaning self.old reading.entry out.old }
-        ensures buffer { out.new ≡ sample_buffer K.meaning self.old reading.entry out.old }
+        ensures reply { let c = sample (lent_reading reading.entry) (length out.old) in result ≡ counted (written K.meaning self.old c) (checked K.meaning self.old c) }
+        ensures sensor { self.new ≡ next K.meaning self.old (sample (lent_reading reading.entry) (length out.old)) }
+        ensures buffer { out.new ≡ over (written K.meaning self.old (sample (lent_reading reading.entry) (length out.old))) out.old }
     {
         let device = self.device.as_mut().ok_or(Denial::Blank)?;
         let reading = decode_reading(reading).ok_or(Denial::NoValue)?;
@@ -132,10 +137,10 @@ impl<K: Kind> Sensor<K> {
     // Takes a request and writes the response. A denied request changes nothing; from the check of the index on, its
     // negative response is written.
     pub fn request(&mut self, frame: &[u8], out: &mut [u8]) -> Result<usize, Fault>
-        ensures reply { result ≡ request_reply K.meaning self.old frame.now out.old }
-        ensures sensor { self.new ≡ request_after K.meaning self.old frame.now out.old }
-        ensures buffer { out.new ≡ request_buffer K.meaning self.old frame.now out.old }
-        ensures shown { IfSome self.old.device (FrameIsShown K.meaning frame.now out.old) }
+        ensures reply { let c = request frame.now (length out.old) in result ≡ counted (written K.meaning self.old c) (checked K.meaning self.old c) }
+        ensures sensor { self.new ≡ next K.meaning self.old (request frame.now (length out.old)) }
+        ensures buffer { out.new ≡ over (written K.meaning self.old (request frame.now (length out.old))) out.old }
+        ensures shown { IfOk (checked K.meaning self.old (request frame.now (length out.old))) ShowsOneToEight }
     {
         self.device
             .as_mut()
@@ -147,7 +152,7 @@ impl<K: Kind> Sensor<K> {
     pub fn channels(&self) -> &[Row<K>]
         ensures { result.now ≡ channels_of self.now }
     {
-        // A `match`, as in `keypad_open`.
+        // A `match`, as in `is_keypad_open`.
         match &self.device {
             Some(device) => device.channels.present(),
             None => &[],

@@ -3,7 +3,6 @@ use Rattle.std.proofs.Common.{◌≡◌, ℕ, ◌+◌, ◌<◌, Bool, true, fals
 use Rattle.std.proofs.lemmas.Bool.{cond-false, cond-true, lt-leb}
 use Rattle.kinds.specs.Meaning.{Meaning, Lawful}
 use Rattle.teach.specs.declared.capture.Captured.{Captured}
-use Rattle.teach.specs.declared.command.Command.{Command}
 use Rattle.teach.specs.declared.command.Setpoint.{Setpoint}
 use Rattle.teach.specs.declared.machine.State.{State}
 use Rattle.teach.specs.declared.machine.State.TheVariants.{Idle, BusySingle, BusyTwo, WaitTwo}
@@ -14,9 +13,8 @@ use Rattle.teach.specs.Evaluation.{teachpoint_of}
 use Rattle.teach.specs.Machine.{Moved, fed, full}
 use Rattle.teach.specs.Teachpoints.{with_teachpoint}
 use Rattle.faults.specs.declared.Fault.{Fault}
-use Rattle.faults.specs.declared.Place.{Place}
 use Rattle.teach.specs.declared.teaching.Teach.{Teach}
-use Rattle.teach.specs.Teaching.{known, row_in, reply_of, reply_to, teach_of, teach_to, taken_reply, taken_teach}
+use Rattle.teach.specs.Teaching.{store_by, teach_by}
 use Rattle.teach.specs.Promises.{is_busy, fed_all, TakesExactlyC, Between, StoresWithin}
 
 abbrev counted : {V : Type 0} → Option (Captured V) → ℕ
@@ -87,14 +85,7 @@ module _ {V : Type 0} (m : Meaning V) (l : Lawful V m) (t : Terms) where
   )
 
 -- ---- a command that is denied leaves the teach as it was
-module _ {V : Type 0} (m : Meaning V) (terms : Terms) (place : Place) (t : Teach V) where
-  row_denied : (x : Option (Moved V)) (f : Fault) → Err f ≡ reply_of m terms place x → teach_of m terms t x ≡ t
-  row_denied None f h = refl
-  row_denied (Some x) f h = cc
-
-  code_denied : (k : Result Command Fault) (f : Fault) → Err f ≡ reply_to m terms place t k → teach_to m terms t k ≡ t
-  code_denied (Err e) f h = refl
-  code_denied (Ok c) f h = row_denied (row_in m terms t c) f h
-
-  pub command_denied : (code : ℕ) (f : Fault) → Err f ≡ taken_reply m terms place t code → taken_teach m terms place t code ≡ t
-  command_denied code f h = code_denied (known place code) f h
+module _ {V : Type 0} (t : Teach V) where
+  pub command_denied : (x : Result (Moved V) Fault) (f : Fault) → Err f ≡ store_by x → teach_by t x ≡ t
+  command_denied (Err e) f h = refl
+  command_denied (Ok x) f h = cc

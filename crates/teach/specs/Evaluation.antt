@@ -11,7 +11,7 @@ module _ {V : Type 0} (m : Meaning V) (t : Terms) where
   abbrev pub teachpoint_of : V → V → V
   teachpoint_of lowest highest = m.middle lowest highest
 
-  -- single: it fails when the highest is above the lowest raised by S, else the teachpoint is stored
+  -- single: it fails when the highest is above the lowest raised by S, else their middle is stored
   abbrev pub evaluate_single : Setpoint → V → V → Verdict V
   evaluate_single sp lowest highest =
       cond (under m (m.raised lowest t.spread) highest) Fails (Stores sp (teachpoint_of lowest highest))

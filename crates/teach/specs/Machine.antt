@@ -83,20 +83,21 @@ module _ {V : Type 0} (m : Meaning V) (flags : Flags) (t : Terms) where
   row (WaitDyn sp s) Cancel c = drops sp
   row s other c = None
 
+module _ {V : Type 0} where
   -- 21: the command is not in the state's row, or Apply without both flags
-  abbrev pub reply_by : Place → Option (Moved V) → Result (Effect V) Fault
-  reply_by place None = Err (fault_at NotInState place)
-  reply_by place (Some x) = Ok x.effect
+  abbrev pub row_checked : Place → Option (Moved V) → Result (Moved V) Fault
+  row_checked place None = Err (fault_at NotInState place)
+  row_checked place (Some x) = Ok x
 
-  abbrev pub state_by : State V → Option (Moved V) → State V
-  state_by s None = s
-  state_by s (Some x) = x.state
+  -- what a command that is taken does beside moving the machine
+  abbrev pub effect_by : Result (Moved V) Fault → Result (Effect V) Fault
+  effect_by (Ok x) = Ok x.effect
+  effect_by (Err f) = Err f
 
-  abbrev pub command_reply : Place → State V → Command → Result (Effect V) Fault
-  command_reply place s c = reply_by place (row s c.step c)
-
-  abbrev pub command_state : State V → Command → State V
-  command_state s c = state_by s (row s c.step c)
+  -- the machine after a command: one that is denied leaves it
+  abbrev pub state_by : State V → Result (Moved V) Fault → State V
+  state_by s (Ok x) = x.state
+  state_by s (Err f) = s
 
 module _ {V : Type 0} (m : Meaning V) (t : Terms) where
   -- C values have been taken

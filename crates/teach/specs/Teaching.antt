@@ -2,8 +2,8 @@
 use Rattle.std.specs.Prelude.{ℕ, ◌+◌, ◌*◌, Bool, true, false, cond, ◌||◌, Some, None, Ok, Err, Option, Result}
 use Rattle.faults.specs.declared.Fault.{Fault}
 use Rattle.faults.specs.declared.Place.{Place}
-use Rattle.faults.specs.declared.Denial.TheVariants.{UnknownCommand, NotInState}
-use Rattle.faults.specs.Denials.{fault_at}
+use Rattle.faults.specs.declared.Denial.TheVariants.{UnknownCommand}
+use Rattle.faults.specs.Denials.{fault_at, then}
 use Rattle.kinds.specs.Meaning.{Meaning}
 use Rattle.teach.specs.declared.command.Command.{Command}
 use Rattle.teach.specs.declared.command.Setpoint.{Setpoint}
@@ -20,7 +20,7 @@ use Rattle.teach.specs.declared.teaching.Teach.{Teach}
 use Rattle.teach.specs.declared.teaching.Store.{Store}
 use Rattle.teach.specs.Commands.{row_of}
 use Rattle.teach.specs.Flags.{no_flags, changed, flag_bits}
-use Rattle.teach.specs.Machine.{Moved, row, fed, same_setpoint}
+use Rattle.teach.specs.Machine.{Moved, row, row_checked, fed, same_setpoint}
 
 module _ {V : Type 0} where
   -- after set-up, a select or a restart: idle, no flags, nothing taught, no failure
@@ -36,7 +36,7 @@ module _ {V : Type 0} where
   taught_by sp (Stores s v) b = same_setpoint s sp || b
   taught_by sp v b = b
 
-  -- a failure shows until a teach begins, is cancelled or stores
+  -- a failure shows until the next command that leaves Idle; a teach that is cancelled or stores shows none
   abbrev pub failed_by : Change → Verdict V → Bool → Bool
   failed_by c Fails b = true
   failed_by c (Stores s v) b = false
@@ -84,32 +84,24 @@ named place (Some c) = Ok c
 abbrev pub known : Place → ℕ → Result Command Fault
 known place code = named place (row_of code)
 
+module _ {V : Type 0} where
+  -- what a command that is taken stores
+  abbrev pub store_by : Result (Moved V) Fault → Result (Option (Store V)) Fault
+  store_by (Ok x) = Ok (store_of x.effect.verdict)
+  store_by (Err f) = Err f
+
+  -- the teach after a command: one that is denied changes nothing
+  abbrev pub teach_by : Teach V → Result (Moved V) Fault → Teach V
+  teach_by t (Ok x) = stepped t x
+  teach_by t (Err f) = t
+
 module _ {V : Type 0} (m : Meaning V) (terms : Terms) where
   abbrev pub row_in : Teach V → Command → Option (Moved V)
   row_in t c = row m t.flags terms t.state c.step c
 
-  abbrev pub reply_of : Place → Option (Moved V) → Result (Option (Store V)) Fault
-  reply_of place None = Err (fault_at NotInState place)
-  reply_of place (Some x) = Ok (store_of x.effect.verdict)
-
-  abbrev pub teach_of : Teach V → Option (Moved V) → Teach V
-  teach_of t None = t
-  teach_of t (Some x) = stepped t x
-
-  abbrev pub reply_to : Place → Teach V → Result Command Fault → Result (Option (Store V)) Fault
-  reply_to place t (Err f) = Err f
-  reply_to place t (Ok c) = reply_of place (row_in t c)
-
-  abbrev pub teach_to : Teach V → Result Command Fault → Teach V
-  teach_to t (Err f) = t
-  teach_to t (Ok c) = teach_of t (row_in t c)
-
-  -- the reply to a command's code, 20 before 21, and the teach afterwards: a denied command changes nothing
-  abbrev pub taken_reply : Place → Teach V → ℕ → Result (Option (Store V)) Fault
-  taken_reply place t code = reply_to place t (known place code)
-
-  abbrev pub taken_teach : Place → Teach V → ℕ → Teach V
-  taken_teach place t code = teach_to t (known place code)
+  -- a command's code: 20, then 21
+  abbrev pub commanded : Place → Teach V → ℕ → Result (Moved V) Fault
+  commanded place t code = then (known place code) (λ c. row_checked place (row_in t c))
 
   -- a value that is fed
   abbrev pub fed_store : Teach V → V → Option (Store V)

@@ -5,7 +5,7 @@ ghost use Rattle.teach.specs.declared.machine.Change.TheVariants.{Keep};
 ghost use Rattle.teach.specs.declared.machine.Verdict.TheVariants.{Open};
 ghost use Rattle.teach.specs.Evaluation.{evaluate_dynamic, evaluate_single, evaluate_two};
 ghost use Rattle.teach.specs.Flags.{both_set, of_setpoint, with_setpoint};
-ghost use Rattle.teach.specs.Machine.{command_reply, command_state, ended, fed};
+ghost use Rattle.teach.specs.Machine.{effect_by, ended, fed, row, row_checked, state_by};
 ghost use Rattle.teach.specs.Teachpoints.{with_teachpoint};
 ghost use Rattle.std.specs.Prelude.{◌≡◌, IfNone};
 
@@ -201,8 +201,8 @@ impl<K: Kind> State<K> {
         command: Command,
         place: Place,
     ) -> Result<Effect<K>, Fault>
-        ensures reply { result ≡ command_reply K.meaning flags terms place self.old command }
-        ensures state { self.new ≡ command_state K.meaning flags terms self.old command }
+        ensures reply { result ≡ effect_by (row_checked place (row K.meaning flags terms self.old command.step command)) }
+        ensures state { self.new ≡ state_by self.old (row_checked place (row K.meaning flags terms self.old command.step command)) }
     {
         let named = command.setpoint;
         match (&mut *self, command.step) {

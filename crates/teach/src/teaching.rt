@@ -1,7 +1,7 @@
 // A sensor's teach: the machine with its flags, what was taught since the last select, and whether it failed.
 ghost use Rattle.teach.specs.Flags.{changed, flag_bits};
 ghost use Rattle.teach.specs.Promises.{CancelStoresNothing, CapturesWiden, StoresWithin, TakesExactlyC};
-ghost use Rattle.teach.specs.Teaching.{fed_store, fed_teach, idle as idle_teach, is_idle, known, settled, store_of, taken_reply, taken_teach, teach_result};
+ghost use Rattle.teach.specs.Teaching.{fed_store, fed_teach, commanded, idle as idle_teach, is_idle, known, settled, store_by, store_of, teach_by, teach_result};
 ghost use Rattle.std.specs.Prelude.{◌≡◌};
 
 use super::command::{Command, Setpoint, find};
@@ -116,8 +116,8 @@ impl<K: Kind> Teach<K> {
         code: u8,
         place: Place,
     ) -> Result<Option<Store<K>>, Fault>
-        ensures reply { result ≡ taken_reply K.meaning terms place self.old code }
-        ensures teach { self.new ≡ taken_teach K.meaning terms place self.old code }
+        ensures reply { result ≡ store_by (commanded K.meaning terms place self.old code) }
+        ensures teach { self.new ≡ teach_by self.old (commanded K.meaning terms place self.old code) }
         ensures stores_within { StoresWithin {V = K} K.meaning terms }
         ensures cancel_stores_nothing { CancelStoresNothing {V = K} K.meaning terms }
     {

@@ -1,5 +1,8 @@
 // What a sensor answers to a request.
-ghost use Rattle.sensor.specs.Requests.{request_after, request_buffer, request_reply};
+ghost use Rattle.octets.specs.Buffers.{over};
+ghost use Rattle.sensor.specs.Answers.{counted};
+ghost use Rattle.sensor.specs.Calls.{request};
+ghost use Rattle.sensor.specs.Rules.{checked, next, written};
 ghost use Rattle.std.specs.Prelude.{◌≡◌, OnOk};
 ghost use Rattle.vectors.specs.Answers.{Leaves, Replies, untouched};
 
@@ -47,9 +50,9 @@ pub(crate) fn ask<K: Kind>(
     frame: &[u8],
     answer: &Answer,
 ) -> Result<Option<Denial>, Mismatch>
-    ensures reply { OnOk result (Replies (request_reply K.meaning sensor.old frame.now untouched) answer.now) }
-    ensures response { OnOk result (Leaves (request_buffer K.meaning sensor.old frame.now untouched) answer.now) }
-    ensures sensor { sensor.new ≡ request_after K.meaning sensor.old frame.now untouched }
+    ensures reply { let c = request frame.now 16 in OnOk result (Replies (counted (written K.meaning sensor.old c) (checked K.meaning sensor.old c)) answer.now) }
+    ensures response { OnOk result (Leaves (over (written K.meaning sensor.old (request frame.now 16)) untouched) answer.now) }
+    ensures sensor { sensor.new ≡ next K.meaning sensor.old (request frame.now 16) }
 {
     let mut buffer = [0xAAu8; 16];
     let reply = sensor.request(frame, &mut buffer);

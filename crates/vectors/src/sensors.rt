@@ -1,7 +1,7 @@
 // A sensor of a kind that a line names.
 use crate::answers::{Answer, ask};
 use crate::replays::Mismatch;
-use days::call::lent_setup;
+use days::call::lend_setup;
 use faults::{Denial, Fault};
 use kinds::float32_t::Float32T;
 use kinds::integer_t16::IntegerT16;
@@ -27,7 +27,7 @@ impl AnySensor {
     }
 
     pub(crate) fn set_up(&mut self, setup: &Setup<Vec<u8>>) -> Result<(), Fault> {
-        let setup = lent_setup(setup);
+        let setup = lend_setup(setup);
         match self {
             AnySensor::Int16(sensor) => sensor.set_up(&setup),
             AnySensor::Int32(sensor) => sensor.set_up(&setup),

@@ -3,7 +3,7 @@
 
 ghost use Rattle.worked.specs.Sessions.{Sessions};
 
-// The replies, responses and process data of the worked sessions, octet by octet.
+// The replies of the worked sessions, call by call.
 pub fn bench_sessions()
     ensures { Sessions }
 {}

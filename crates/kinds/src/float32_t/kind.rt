@@ -11,7 +11,7 @@ ghost use Rattle.numbers.proofs.Octets.{four_sound};
 ghost use Rattle.numbers.proofs.Options.{some_of};
 ghost use Rattle.kinds.specs.Same.{same_float};
 ghost use Rattle.kinds.specs.Ranks.{floats_ranked};
-ghost use Rattle.kinds.specs.Float32TKindLemmas.{back, low, high, apart};
+ghost use Rattle.kinds.specs.Float32TKindLemmas.{back, low, high};
 
 use crate::float32_t::Float32T;
 use crate::kind::Kind;
@@ -75,11 +75,13 @@ impl Kind for Float32T {
 
     ghost HIGHEST_END = { floats.high_limit };
 
+    ghost STEP = { floats.step };
+
     ghost meaning = { floats };
 
     ghost ranked = { λ v w. floats_ranked v.value w.value v.allowed w.allowed };
 
-    ghost constants = { (refl, refl, refl) };
+    ghost constants = { (refl, refl, refl, refl) };
 
     ghost lawful = { record {
       width_two_or_four = inr refl;
@@ -98,7 +100,6 @@ impl Kind for Float32T {
       lowered_order = λ v w n h. Moves.lowered_order v.value v.allowed w.value n w.allowed h;
       middle_low = λ v w. low v w (int_le (rank v.value) (rank w.value)) refl;
       middle_high = λ v w. high v w (int_le (rank v.value) (rank w.value)) refl;
-      limits_apart = apart;
     } };
 
     // -infinity, +infinity, and what is no number.

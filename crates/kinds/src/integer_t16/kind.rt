@@ -1,8 +1,7 @@
 // IntegerT16 as a kind of measured value.
 ghost use Rattle.kinds.specs.IntegerT16.{integer_t16};
-ghost use Rattle.kinds.specs.Integers.{integers};
+ghost use Rattle.kinds.specs.Integers.{integers, step};
 ghost use Rattle.std.specs.Prelude.{refl};
-ghost use Rattle.std.specs.Int.Signed.{lt_z_yes};
 ghost use Rattle.std.proofs.Common.{inl};
 ghost use Rattle.numbers.proofs.Octets.{two_sound};
 ghost use Rattle.kinds.specs.IntegersLemmas as Integers;
@@ -28,11 +27,13 @@ impl Kind for IntegerT16 {
 
     ghost HIGHEST_END = { integer_t16.highest };
 
+    ghost STEP = { step };
+
     ghost meaning = { integers integer_t16 };
 
     ghost ranked = { λ v w. refl };
 
-    ghost constants = { (refl, refl, refl) };
+    ghost constants = { (refl, refl, refl, refl) };
 
     ghost lawful = { Integers.lawful integer_t16 (record {
       number_of = λ z h. refl;
@@ -42,7 +43,6 @@ impl Kind for IntegerT16 {
       below_wide = refl;
       above_wide = refl;
       no_data_wide = refl;
-      apart = lt_z_yes tt;
     }) };
 
     fn below_substitute() -> &'static [u8] {

@@ -1,8 +1,7 @@
 // IntegerT32 as a kind of measured value.
 ghost use Rattle.kinds.specs.IntegerT32.{integer_t32};
-ghost use Rattle.kinds.specs.Integers.{integers};
+ghost use Rattle.kinds.specs.Integers.{integers, step};
 ghost use Rattle.std.specs.Prelude.{refl};
-ghost use Rattle.std.specs.Int.Signed.{lt_z_yes};
 ghost use Rattle.std.proofs.Common.{inr};
 ghost use Rattle.numbers.proofs.Octets.{four_sound};
 ghost use Rattle.kinds.specs.IntegersLemmas as Integers;
@@ -32,11 +31,13 @@ impl Kind for IntegerT32 {
 
     ghost HIGHEST_END = { integer_t32.highest };
 
+    ghost STEP = { step };
+
     ghost meaning = { integers integer_t32 };
 
     ghost ranked = { λ v w. refl };
 
-    ghost constants = { (refl, refl, refl) };
+    ghost constants = { (refl, refl, refl, refl) };
 
     ghost lawful = { Integers.lawful integer_t32 (record {
       number_of = λ z h. refl;
@@ -46,7 +47,6 @@ impl Kind for IntegerT32 {
       below_wide = refl;
       above_wide = refl;
       no_data_wide = refl;
-      apart = lt_z_yes tt;
     }) };
 
     fn below_substitute() -> &'static [u8] {

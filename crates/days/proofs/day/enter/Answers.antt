@@ -1,14 +1,37 @@
-use Rattle.std.proofs.Common.{map, ◌∙◌, ap}
-use Rattle.rules.specs.Rules.{shown}
-use Rattle.sensor.specs.Devices.{channels_of}
-use Rattle.days.specs.Told.{channel_told}
-use Rattle.days.proofs.Entering.{channels_told}
+use Rattle.std.proofs.Common.{◌≡◌, length, vec_items, ap, ◌∙◌}
+use Rattle.std.proofs.lemmas.List.{length-replicate}
+use Rattle.sensor.specs.Calls.{Call}
+use Rattle.sensor.specs.Rules.{next}
+use Rattle.days.specs.Told.{call_of, called, read_from}
+use Rattle.days.proofs.Entering.{channels_shown, next_by_name, written_back}
+use Rattle.days.proofs.Replies.{read_back}
 use Rattle.days.proofs.day.enter.Goals as goal
 
 pub returns-clause-entry : goal.returns-clause-entry
 returns-clause-entry g c =
+    let m = g.K.Kind.meaning in
+    let s = c.args.bench.now.sensor in
+    let made = c.make-reply in
+    let line = c.args.line.now in
+    let zeros = c.as_mut_slice.result.now in
+    let call : Call = called c.lend.result (length zeros) in
+    let room : length zeros ≡ line.room = ap length (c.as_mut_slice.ensures.value ∙ c.in_ok-out.ensures) ∙ length-replicate line.room 0 in
+    let call-is : call ≡ call_of line = ap (called c.lend.result) room ∙ c.lend.ensures in
+    let told =
+    c.keep_octets.ensures
+    ∙ ap (λ buffer. read_from buffer made.result) (written_back made.new.out _ c.in_ok-out.out.len (made.auto.out ∙ c.as_mut_slice.ensures.len))
+    ∙ read_back m s call (call_of line) zeros made.new.out made.result made.ensures.reply made.ensures.buffer call-is in
     let shows =
-    ap (map channel_told) c.in_ok-channels.ensures
-    ∙ channels_told (channels_of c.make.new.sensor)
-    ∙ ap (λ s. map shown (channels_of s)) c.in_ok-reply.ensures.sensor in
-    λ i. record { reply = c.in_ok-reply.ensures.reply i; channels = shows i }
+    channels_shown made.new.self.sensor (next m s (call_of line)) (vec_items c.in_ok-channels.channels) c.in_ok-channels.ensures
+    (next_by_name m s made.new.self.sensor call (call_of line) made.ensures.sensor call-is) in
+    λ i. record { reply = told i; channels = shows i }
+
+pub returns-clause-sensor : goal.returns-clause-sensor
+returns-clause-sensor g c =
+    let made = c.make-reply in
+    let line = c.args.line.now in
+    let zeros = c.as_mut_slice.result.now in
+    let call : Call = called c.lend.result (length zeros) in
+    let room : length zeros ≡ line.room = ap length (c.as_mut_slice.ensures.value ∙ c.in_ok-out.ensures) ∙ length-replicate line.room 0 in
+    let call-is : call ≡ call_of line = ap (called c.lend.result) room ∙ c.lend.ensures in
+    next_by_name g.K.Kind.meaning c.args.bench.now.sensor made.new.self.sensor call (call_of line) made.ensures.sensor call-is

@@ -2,21 +2,21 @@ use Rattle.std.proofs.Common.{◌+◌, ◌≤◌, length, refl, sym, ◌∙◌, 
 use Rattle.std.specs.Option.{IsSome}
 use Rattle.isdu.proofs.Callers.{read_confirmed}
 use Rattle.objects.specs.Reads.{OneToEight}
-use Rattle.sensor.specs.Access.{read_octets}
+use Rattle.sensor.specs.Requests.{octets_shown}
 use Rattle.sensor.proofs.Behind.{behind_count, behind_put, behind_some}
 use Rattle.sensor.proofs.Reading.{read_shown}
 use Rattle.sensor.proofs.device.Device.show.Goals as goal
 
 pub unwrap-n-requires : goal.unwrap-n-requires
 unwrap-n-requires g c =
-    let ds = read_octets g.K.Kind.meaning c.args.self.now c.args.object c.args.subindex in
-    let shown : OneToEight ds = read_shown g.K.Kind.meaning g.met.K.Kind.lawful c.args.self.now c.args.object c.args.subindex c.requires.readable in
+    let ds = octets_shown g.K.Kind.meaning c.args.self.now c.args.shown in
+    let shown : OneToEight ds = read_shown g.K.Kind.meaning g.met.K.Kind.lawful c.args.self.now c.args.shown c.requires.row in
     subst IsSome (behind_some ds c.args.out.now (omega (arith, shown, c.requires.room)) ∙ sym c.read.ensures.answer) refl
 
 pub returns : goal.returns
 returns g c =
-    let ds = read_octets g.K.Kind.meaning c.args.self.now c.args.object c.args.subindex in
-    let shown : OneToEight ds = read_shown g.K.Kind.meaning g.met.K.Kind.lawful c.args.self.now c.args.object c.args.subindex c.requires.readable in
+    let ds = octets_shown g.K.Kind.meaning c.args.self.now c.args.shown in
+    let shown : OneToEight ds = read_shown g.K.Kind.meaning g.met.K.Kind.lawful c.args.self.now c.args.shown c.requires.row in
     let xs = c.args.out.now in
     let room : length ds + 1 ≤ length xs = omega (arith, shown, c.requires.room) in
     let count = behind_count ds xs room c.read.result c.unwrap-n.result c.read.ensures.answer c.unwrap-n.ensures in

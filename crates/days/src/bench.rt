@@ -1,0 +1,15 @@
+// A sensor on a bench: one call at a time, with no heap.
+ghost use Rattle.days.specs.Kept.{due};
+ghost use Rattle.std.specs.Prelude.{◌≡◌};
+
+use sensor::keypad::Ticket;
+use sensor::sensor::Sensor;
+
+pub mod making;
+
+// A sensor with the ticket of its open keypad operation.
+pub struct BenchSensor<K> {
+    sensor: Sensor<K>,
+    ticket: Option<Ticket>,
+    ghost kept: { ticket ≡ due sensor },
+}

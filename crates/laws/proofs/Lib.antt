@@ -1,0 +1,13 @@
+pub mod Again
+pub mod Each
+pub mod Holding
+pub mod Origins
+pub mod Settings
+pub mod Sound
+pub mod Steps
+pub mod Stored
+pub mod Strikes
+pub mod Struck
+pub mod Tables
+pub mod Taught
+pub mod Turns

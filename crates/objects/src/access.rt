@@ -1,0 +1,173 @@
+// What a request asks for: the checks of its access, and its octets in their number.
+ghost use Rattle.isdu.specs.Views.{asks};
+ghost use Rattle.objects.specs.Lent.{lent_content, lent_result, lent_write};
+ghost use Rattle.objects.specs.Objects.{AccessHasRow, ItemHasRow, access_checked, content_of, data_checked, item_found, place_of, read_checked, write_checked};
+ghost use Rattle.objects.specs.Parts.{part_length};
+ghost use Rattle.std.specs.Prelude.{◌≡◌, drop, length, take, IfOk};
+
+use super::object::{Item, find_object};
+use super::part::Part;
+use channels::table::Table;
+use faults::{Denial, Fault, Place};
+use isdu::{Direction, Request};
+use kinds::kind::Kind;
+
+// What a read shows: the selected channel, TeachResult, or a part of a channel, counted from 1.
+#[derive(Clone, Copy)]
+pub enum Shown {
+    Selected,
+    TeachResult,
+    Channel(u8, Part),
+}
+
+// What a write to a part of a channel brings. `T` has the octets of a setpoint.
+#[derive(Clone, Copy)]
+pub enum Content<T> {
+    Setpoints(T, T),
+    Sp1(T),
+    Sp2(T),
+    // Logic, mode and hysteresis.
+    Configuration(u8, u8, u16),
+    Logic(u8),
+    Mode(u8),
+    Hysteresis(u16),
+}
+
+// What a write brings: a command's code, a channel to select, or the content of a part of a channel, counted from 1.
+#[derive(Clone, Copy)]
+pub enum Written<T> {
+    Command(u8),
+    Select(u8),
+    Channel(u8, Content<T>),
+}
+
+// What a request asks for, once its access has passed every check.
+#[derive(Clone, Copy)]
+pub enum Access<T> {
+    Read(Shown),
+    Write(Written<T>),
+}
+
+// The place of the object that a request concerns. No `From` in `isdu`: frames know nothing of the places of faults.
+pub fn place(request: &Request) -> Place
+    ensures { result ≡ place_of (asks request.now) }
+{
+    Place {
+        index: request.index,
+        subindex: request.subindex,
+    }
+}
+
+// The checks of a write's data: 14, 15 and 16.
+fn check_data(request: &Request, length: usize, keypad: bool) -> Result<(), Fault>
+    ensures { result ≡ data_checked keypad (asks request.now) length }
+{
+    if request.data.len() > length {
+        return Err(Fault::at(Denial::DataTooLong, place(request)));
+    }
+    if request.data.len() < length {
+        return Err(Fault::at(Denial::DataTooShort, place(request)));
+    }
+    if keypad {
+        return Err(Fault::at(Denial::WriteUnderKeypad, place(request)));
+    }
+    Ok(())
+}
+
+// The octets of the first value, and those behind it.
+fn halves(octets: &[u8], width: usize) -> (&[u8], &[u8])
+    ensures first { result.0.now ≡ take width octets.now }
+    ensures second { result.1.now ≡ drop width octets.now }
+{
+    octets.split_at_checked(width).unwrap_or((octets, &[]))
+}
+
+// What the octets of a write bring to a part of a channel.
+fn bring<'a>(part: Part, octets: &'a [u8], width: usize) -> Content<&'a [u8]>
+    requires { length octets.now ≡ part_length width part }
+    ensures { lent_content result ≡ content_of width part octets.now }
+{
+    match part {
+        Part::Setpoints => {
+            let (sp1, sp2) = halves(octets, width);
+            Content::Setpoints(sp1, sp2)
+        }
+        Part::Sp1 => Content::Sp1(octets),
+        Part::Sp2 => Content::Sp2(octets),
+        Part::Configuration => Content::Configuration(
+            octets[0],
+            octets[1],
+            u16::from_be_bytes([octets[2], octets[3]]),
+        ),
+        Part::Logic => Content::Logic(octets[0]),
+        Part::Mode => Content::Mode(octets[0]),
+        Part::Hysteresis => Content::Hysteresis(u16::from_be_bytes([octets[0], octets[1]])),
+    }
+}
+
+// What a write asks for: 13 and, of the data, 14, 15 and 16.
+fn write_of<'a, K: Kind>(
+    request: &Request<'a>,
+    item: Item,
+    keypad: bool,
+) -> Result<Written<&'a [u8]>, Fault>
+    ensures { lent_write result ≡ write_checked {V = K} K.meaning keypad (asks request.now) item }
+{
+    match item {
+        Item::SystemCommand => {
+            check_data(request, 1, keypad)?;
+            Ok(Written::Command(request.data[0]))
+        }
+        Item::TeachSelect => {
+            check_data(request, 1, keypad)?;
+            Ok(Written::Select(request.data[0]))
+        }
+        Item::TeachResult => Err(Fault::at(Denial::WrongDirection, place(request))),
+        Item::Channel(channel, part) => {
+            check_data(request, part.length(K::width()), keypad)?;
+            Ok(Written::Channel(channel, bring(part, request.data, K::width())))
+        }
+    }
+}
+
+// What a read asks for: 13.
+fn read_of(request: &Request, item: Item) -> Result<Shown, Fault>
+    ensures { result ≡ read_checked (asks request.now) item }
+{
+    match item {
+        Item::SystemCommand => Err(Fault::at(Denial::WrongDirection, place(request))),
+        Item::TeachSelect => Ok(Shown::Selected),
+        Item::TeachResult => Ok(Shown::TeachResult),
+        Item::Channel(channel, part) => Ok(Shown::Channel(channel, part)),
+    }
+}
+
+// The item that a request reaches: 11 and 12. The channel of one that is there has its row.
+fn find_item<K: Kind>(table: &Table<K>, request: &Request) -> Result<Item, Fault>
+    ensures item { result ≡ item_found table.now (asks request.now) }
+    ensures row { IfOk result (ItemHasRow table.now) }
+{
+    let object = find_object(table, request.index).ok_or(Fault::at(
+        Denial::NoIndex,
+        place(request),
+    ))?;
+    object
+        .item(request.subindex)
+        .ok_or(Fault::at(Denial::NoSubindex, place(request)))
+}
+
+// What a request asks for: the checks 11 to 16 in their order. The channel of what is read or written has its row.
+pub fn check_access<'a, K: Kind>(
+    table: &Table<K>,
+    keypad: bool,
+    request: &Request<'a>,
+) -> Result<Access<&'a [u8]>, Fault>
+    ensures access { lent_result result ≡ access_checked K.meaning table.now keypad (asks request.now) }
+    ensures row { IfOk result (AccessHasRow table.now) }
+{
+    let item = find_item(table, request)?;
+    match request.direction {
+        Direction::Read => Ok(Access::Read(read_of(request, item)?)),
+        Direction::Write => Ok(Access::Write(write_of::<K>(request, item, keypad)?)),
+    }
+}
