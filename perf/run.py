@@ -18,7 +18,7 @@ from pathlib import Path
 
 TOP = Path(__file__).resolve().parent.parent
 PERF = TOP / "perf"
-CRATES = ["octets", "numbers", "faults", "isdu", "kinds", "channels", "teach", "objects", "sensor"]
+CRATES = ["octets", "numbers", "faults", "isdu", "kinds", "channels", "teach", "keypad", "objects", "sensor"]
 EXPORTS = "perf_{} staticlib: octets faults kinds channels teach sensor"
 CPU = "x86-64-v2"  # what rt builds for
 KINDS = ["IntegerT16", "IntegerT32", "Float32T"]
@@ -52,7 +52,7 @@ def copy_crates(work):
     for kind, module in zip(KINDS, MODULES):
         source = work / "crates" / f"perf_{module}" / "src"
         source.mkdir(parents=True, exist_ok=True)
-        (source / "lib.rt").write_text(text.replace("integer_t16::IntegerT16", f"{module}::{kind}"))
+        (source / "lib.rt").write_text(text.replace("IntegerT16 as Measured", f"{kind} as Measured"))
 
 
 def build_core(work, kind):

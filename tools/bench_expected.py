@@ -12,13 +12,18 @@ plain Python values, and each call is a chain of checks in the order of the rule
                                                       crates/bench/stdout from sessions/*.session
     python3 tools/bench_expected.py --check           fails unless both are as gathered
 
-With `--changes` the line of each call is followed by a line for each channel that differs from what it was before, with the
-fields that changed as `show` prints them; all of them where the channel is new, `gone` where it is no longer there. And a
-day, which runs from an accepted set-up to the next one, the next `sensor` or the end, is followed by its timeline: for each
-channel a character for each accepted sample, `#` where its signal was 1 after it, `_` where it was 0.
+With `--changes` the line of each call is followed by a line for each channel that differs from what it was before, with
+the fields that changed as `show` prints them; all of them where the channel is new, `gone` where it is no longer there.
+And a day, which runs from an accepted set-up to the next one, the next `sensor` or the end, is followed by its
+timeline: for each channel a character for each accepted sample, `#` where its signal was 1 after it, `_` where it was
+0.
+
+A script is read up to its end, or to the first line that cannot be read. Such a line is told on standard error by its
+number, without what was expected there, and the exit status is then 1.
 """
 import glob
 import os
+import re
 import struct
 import sys
 
@@ -416,34 +421,94 @@ def spaced(b):
     return " ".join("%02X" % x for x in b)
 
 
+class Unreadable(Exception):
+    """A line of a script that cannot be read."""
+
+
+# The characters with the property White_Space.
+WHITE_SPACE = "[\t-\r \x85\xa0\u1680\u2000-\u200a\u2028\u2029\u202f\u205f\u3000]+"
+
+
 def octets(t):
-    return b"" if t == "-" else bytes.fromhex(t)
+    if t == "-":
+        return b""
+    if not re.fullmatch("([0-9A-Fa-f]{2})+", t):
+        raise Unreadable
+    return bytes.fromhex(t)
 
 
-def call(sensor, word, rest):
-    """The text of an accepted call's reply."""
+def number(low, high):
+    """What reads a number from low to high."""
+    def read(t):
+        if not re.fullmatch("-?[0-9]+" if low < 0 else "[0-9]+", t) or not low <= int(t) <= high:
+            raise Unreadable
+        return int(t)
+    return read
+
+
+U8, U16, U32 = number(0, 255), number(0, 65535), number(0, 4294967295)
+FIELDS = dict(serial=U32, channels=U8, low=octets, high=octets, scale=number(-128, 127), capture=U8, spread=U16,
+              distance=U16)
+# The calls that have the same number of words each time.
+FIXED = {"open": [], "write": [U32, U8, U8, octets], "close": [U32], "restart": []}
+
+
+def field(w):
+    key, _, value = w.partition("=")
+    if key not in FIELDS:
+        raise Unreadable
+    return key, FIELDS[key](value)
+
+
+def read_call(word, rest):
+    """The arguments of a call."""
+    if word == "setup":
+        fields = dict(field(w) for w in rest)
+        if len(fields) < len(FIELDS):
+            raise Unreadable
+        return [fields]
+    if word in FIXED:
+        if len(rest) != len(FIXED[word]):
+            raise Unreadable
+        return [read(t) for read, t in zip(FIXED[word], rest)]
+    if word not in ("sample", "request"):
+        raise Unreadable
     room = 16
     if len(rest) >= 2 and rest[-2] == "into":
-        room, rest = int(rest[-1]), rest[:-2]
-    if word == "setup":
-        fields = dict(w.split("=") for w in rest)
-        sensor.setup({k: octets(v) if k in ("low", "high") else int(v) for k, v in fields.items()})
-    elif word == "sample":
-        t = rest[0]
-        return spaced(sensor.sample(t if t in ("below", "above", "nodata") else octets(t), room))
-    elif word == "request":
-        return spaced(sensor.request(octets("".join(rest)), room))
-    elif word == "open":
-        return "ticket %d" % sensor.open()
-    elif word == "write":
-        sensor.write(int(rest[0]), int(rest[1]), int(rest[2]), octets(rest[3]))
-    elif word == "close":
-        sensor.close(int(rest[0]))
-    elif word == "restart":
-        sensor.restart()
-    else:
-        raise SystemExit("unknown word " + word)
-    return "accepted"
+        room, rest = U16(rest[-1]), rest[:-2]
+    # `-` stands alone, and a sample has one word.
+    if not rest or len(rest) > 1 and (word == "sample" or "-" in rest):
+        raise Unreadable
+    if word == "sample" and rest[0] in ("below", "above", "nodata"):
+        return [rest[0], room]
+    return [b"".join(octets(t) for t in rest), room]
+
+
+def read_line(line):
+    """The word of a line, which is octets, and its arguments; None for a line that asks for nothing."""
+    try:
+        text = line.decode("utf-8")
+    except UnicodeDecodeError:
+        raise Unreadable
+    words = [w for w in re.split(WHITE_SPACE, text.split("#")[0]) if w]
+    if not words:
+        return None
+    word, rest = words[0], words[1:]
+    if word == "show" and not rest:
+        return word, []
+    if word == "sensor":
+        if len(rest) != 1 or rest[0] not in KINDS:
+            raise Unreadable
+        return word, [KINDS[rest[0]]]
+    return word, read_call(word, rest)
+
+
+def call(sensor, word, arguments):
+    """The text of an accepted call's reply."""
+    reply = getattr(sensor, word)(*arguments)
+    if word == "open":
+        return "ticket %d" % reply
+    return spaced(reply) if word in ("sample", "request") else "accepted"
 
 
 def refusal(d):
@@ -490,16 +555,23 @@ def timeline(day):
 
 
 def run(script, changes=False):
-    out, accepted, denied, sensor, day = [], 0, 0, None, []
-    for line in script.splitlines():
-        words = line.split("#")[0].split()
-        if not words:
+    """What is printed for a script, which is octets, and the number of the line that cannot be read, or None."""
+    out, accepted, denied, sensor, day, unreadable = [], 0, 0, None, [], None
+    for n, line in enumerate(script.removeprefix(b"\xef\xbb\xbf").split(b"\n"), 1):
+        try:
+            asked = read_line(line)
+            if asked and sensor is None and asked[0] != "sensor":
+                raise Unreadable
+        except Unreadable:
+            unreadable = n
+            break
+        if asked is None:
             continue
-        word, rest = words[0], words[1:]
+        word, arguments = asked
         if word == "sensor":
             if changes:
                 out += timeline(day)
-            sensor, day = Sensor(KINDS[rest[0]]), []
+            sensor, day = Sensor(*arguments), []
             continue
         before = shown(sensor)
         if word == "show":
@@ -507,7 +579,7 @@ def run(script, changes=False):
             continue
         ended = []
         try:
-            text = call(sensor, word, rest)
+            text = call(sensor, word, arguments)
             accepted += 1
             if word == "setup":
                 ended, day = day, []
@@ -523,26 +595,33 @@ def run(script, changes=False):
             out += changed(before, shown(sensor))
     if changes:
         out += timeline(day)
-    out.append("%d calls: %d accepted, %d denied" % (accepted + denied, accepted, denied))
-    return "".join(t + "\n" for t in out)
+    if unreadable is None:
+        out.append("%d calls: %d accepted, %d denied" % (accepted + denied, accepted, denied))
+    return "".join(t + "\n" for t in out), unreadable
 
 
 def gathered():
     top = os.path.dirname(os.path.dirname(os.path.abspath(__file__)))
-    text = "".join(open(p).read() for p in sorted(glob.glob(os.path.join(top, "sessions", "*.session"))))
-    return {os.path.join(top, "crates/bench/stdin"): text, os.path.join(top, "crates/bench/stdout"): run(text)}
+    script = b"".join(open(p, "rb").read() for p in sorted(glob.glob(os.path.join(top, "sessions", "*.session"))))
+    text, unreadable = run(script)
+    if unreadable is not None:
+        raise SystemExit("sessions/: line %d of all of them cannot be read" % unreadable)
+    return {os.path.join(top, "crates/bench/stdin"): script, os.path.join(top, "crates/bench/stdout"): text.encode()}
 
 
 def main():
     if sys.argv[1:] == ["--gather"]:
-        for path, text in gathered().items():
-            open(path, "w").write(text)
+        for path, content in gathered().items():
+            open(path, "wb").write(content)
     elif sys.argv[1:] == ["--check"]:
-        for path, text in gathered().items():
-            if open(path).read() != text:
+        for path, content in gathered().items():
+            if open(path, "rb").read() != content:
                 raise SystemExit(path + " is not what sessions/ gives: run tools/bench_expected.py --gather")
     else:
-        sys.stdout.write(run(sys.stdin.read(), changes=sys.argv[1:] == ["--changes"]))
+        text, unreadable = run(sys.stdin.buffer.read(), changes=sys.argv[1:] == ["--changes"])
+        sys.stdout.write(text)
+        if unreadable is not None:
+            raise SystemExit("line %d cannot be read" % unreadable)
 
 
 if __name__ == "__main__":

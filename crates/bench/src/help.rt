@@ -1,4 +1,4 @@
-// What `--help` prints.
+/// What `--help` prints.
 pub(crate) const HELP: &str = "\
 bench reads a session script from standard input, makes its calls on real sensors, and prints what they answered.
 
@@ -6,7 +6,8 @@ bench reads a session script from standard input, makes its calls on real sensor
     bench --changes < SCRIPT   also what each call changed in the channels, and the signals over the samples
     bench --help               this text
 
-A script has one call a line. `#` begins a comment, and blank lines are passed over. Octets are hexadecimal, in either case;
+A script has one call a line. `#` begins a comment, and blank lines are passed over. Octets are hexadecimal, \
+in either case;
 `-` stands for none. All other numbers are decimal.
 
     sensor int16        the first line, and again for a new blank sensor: int16, int32 or float32
@@ -25,7 +26,8 @@ A denied call prints its number and its layer, and of a negative response the in
 
     request: denied 18 value 60.1: 44 80 31 F5
 
-With --changes each call is followed by the fields of each channel that it changed, and each day, which lasts from an accepted
+With --changes each call is followed by the fields of each channel that it changed, and each day, which \
+lasts from an accepted
 setup to the next, by its timeline: one character for each accepted sample, # where the signal is 1 and _ where it is 0.
 A line that cannot be read ends the program with its number and with what was expected there.
 ";

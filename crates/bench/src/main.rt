@@ -1,4 +1,4 @@
-// Runs a session script on real sensors and prints what they answered.
+//! The program `bench`: it runs a session script on real sensors and prints what they answered.
 #![tactic(auto)]
 
 mod help;
@@ -9,11 +9,9 @@ mod session;
 mod timeline;
 
 use anyhow::anyhow;
-use days::bench::BenchSensor;
+use days::BenchSensor;
 use help::HELP;
-use kinds::float32_t::Float32T;
-use kinds::integer_t16::IntegerT16;
-use kinds::integer_t32::IntegerT32;
+use kinds::{Float32T, IntegerT16, IntegerT32};
 use run::{Bench, Tally};
 use session::{Section, Session};
 use std::io::Read;
@@ -39,8 +37,8 @@ fn read_task(rt: &HostRuntime) -> anyhow::Result<Task> {
     Ok(Task::Run { changes })
 }
 
-// A blank sensor is made where its kind, and with it its size, is known: in generic code it was tried, and that a sensor of
-// any kind fits into memory stayed open.
+// A blank sensor is made where its kind, and with it its size, is known: in generic code it was tried, and that a
+// sensor of any kind fits into memory stayed open.
 fn run_section(bench: &mut Bench, section: &Section) -> io::Result<()> {
     match section.kind {
         KindName::Int16 => bench.run(BenchSensor::<IntegerT16>::blank(), section),
@@ -51,10 +49,10 @@ fn run_section(bench: &mut Bench, section: &Section) -> io::Result<()> {
 
 fn run_session(rt: &HostRuntime, changes: bool) -> anyhow::Result<()> {
     let heap = rt.alloc();
-    let mut text = String::new(heap);
-    rt.stdin().read_to_string(&mut text)?;
+    let mut octets = Vec::new(heap);
+    rt.stdin().read_to_end(&mut octets)?;
     let mut session = Session::new(heap);
-    let read = session.read(heap, text.as_str());
+    let read = session.read(heap, octets.as_slice());
     let mut bench = Bench {
         rt,
         changes,

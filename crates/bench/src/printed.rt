@@ -1,7 +1,7 @@
-// How octets, answers and channels are printed.
-use days::call::{Call, Channel, Reply};
+//! How octets, answers and channels are printed.
+use days::{Call, Channel, Reply};
 use faults::Fault;
-use kinds::kind::Kind;
+use kinds::Kind;
 use std::fmt;
 
 // Octets as pairs of hexadecimal digits, with a text between them.
@@ -62,14 +62,14 @@ impl fmt::Display for Denied<'_> {
         write!(
             f,
             " {}.{}: {}",
-            self.fault.index,
-            self.fault.subindex,
+            self.fault.place.index,
+            self.fault.place.subindex,
             spaced(self.response)
         )
     }
 }
 
-// A call with what it answered.
+/// A call with what it answered, as one line without its end.
 #[derive(Clone, Copy)]
 pub(crate) struct Answer<'a> {
     pub(crate) call: &'a Call<Vec<u8>>,
@@ -164,9 +164,10 @@ impl<K: Kind> fmt::Display for Value<K> {
     }
 }
 
-// The fields of a channel: all of them, or those that differ from what it was before.
+/// The fields of a channel: all of them, or those that differ from what it was before.
 #[derive(Clone, Copy)]
 pub(crate) struct Fields<'a, K> {
+    /// The channel before the call; with `None` all fields are printed.
     pub(crate) before: Option<&'a Channel<K>>,
     pub(crate) now: &'a Channel<K>,
 }
@@ -179,6 +180,7 @@ impl<K: Kind> Fields<'_, K> {
         }
     }
 
+    /// Whether no field differs.
     pub(crate) fn is_empty(&self) -> bool {
         !FIELDS.iter().any(|field| self.has(*field))
     }

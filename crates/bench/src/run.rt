@@ -1,14 +1,12 @@
-// Takes a sensor through the calls of a section and prints each answer.
+//! Takes a sensor through the calls of a section and prints each answer.
 use super::printed::{Answer, Fields};
 use super::session::{Section, Step};
 use super::timeline::Timeline;
-use days::bench::BenchSensor;
-use days::call::{Call, Channel, Entry, Reply};
-use days::day;
-use kinds::kind::Kind;
+use days::{BenchSensor, Call, Channel, Entry, Reply};
+use kinds::Kind;
 use std::{fmt, io};
 
-// How many calls were accepted and denied.
+/// How many calls were accepted and denied.
 #[derive(Clone, Copy, Default)]
 pub(crate) struct Tally {
     accepted: u64,
@@ -39,12 +37,13 @@ fn begins_day(call: &Call<Vec<u8>>, reply: &Reply<Vec<u8>>) -> bool {
     matches!((call, reply), (Call::SetUp(_), Reply::Accepted(_)))
 }
 
-// What takes sensors through sections, prints each answer and counts it.
+/// What takes sensors through sections, prints each answer and counts it.
 #[derive(Drop)]
 pub(crate) struct Bench<'a> {
     pub(crate) rt: &'a HostRuntime,
-    // Whether to print what changed in the channels, and the timelines.
+    /// Whether to print what changed in the channels, and the timelines.
     pub(crate) changes: bool,
+    /// The calls of all sections so far.
     pub(crate) tally: Tally,
 }
 
@@ -112,13 +111,14 @@ impl Bench<'_> {
         Ok(())
     }
 
-    // Takes a sensor through a section.
+    /// Takes a sensor through a section. An error is want of memory, or that the output cannot be written. Where memory
+    /// for the run is wanting, nothing of it is printed.
     pub(crate) fn run<K: Kind>(
         &mut self,
         sensor: BenchSensor<K>,
         section: &Section,
     ) -> io::Result<()> {
-        let log = day::run(self.rt.alloc(), sensor, section.calls.as_slice())?;
+        let log = days::run(self.rt.alloc(), sensor, section.calls.as_slice())?;
         let mut made = section.calls.iter().zip(&log);
         let mut channels: &[Channel<K>] = &[];
         let mut timeline = Timeline::new(self.rt.alloc());

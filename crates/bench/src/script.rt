@@ -1,31 +1,36 @@
-// A session script: one call a line.
+//! A line of a session script: one call a line.
 ghost use Rattle.std.specs.Prelude.{◌≡◌, IfOk, Some};
 ghost use Rattle.words.specs.Words.{octets_told};
 
-use channels::range::Range;
-use channels::reading::Reading;
-use days::call::{Call, Line as CallLine};
-use sensor::setup::Setup;
+use channels::{Range, Reading};
+use days::{Call, Line as CallLine};
+use sensor::Setup;
 use std::alloc::{AllocError, Global};
-use std::str::FromStr;
-use teach::terms::Terms;
+use std::str::{self, FromStr};
+use teach::Terms;
 use thiserror::Error;
 use words::{KindName, Unread};
 
-// What a line asks for.
+/// What a line asks for.
 #[derive(Drop)]
 pub(crate) enum Line {
+    /// Nothing: the line is empty, or has a comment only.
     Blank,
+    /// A new blank sensor of this kind.
     Sensor(KindName),
+    /// A call, with the length of its buffer.
     Call(CallLine),
+    /// The channels are printed.
     Show,
 }
 
-// Why a line cannot be read: what was expected there, or want of memory.
+/// Why a line cannot be read.
 #[derive(Clone, Copy, Debug, Error)]
 pub(crate) enum Problem {
+    /// What was expected in place of what stands there.
     #[error("expected {0}")]
     Expected(&'static str),
+    /// There was no memory for what the line says.
     #[error("out of memory")]
     Memory(#[from(alloc)] AllocError),
 }
@@ -33,11 +38,30 @@ pub(crate) enum Problem {
 // The buffer of a call where the script names none.
 const USUAL_BUFFER: u16 = 16;
 
+const TEXT_FORM: &str = "text in UTF-8";
+
 const SENSOR_FORM: &str = "sensor int16, int32 or float32";
 
 const OCTETS_FORM: &str = "octets of two hexadecimal digits, or -";
 
 const SETUP_FORM: &str = "setup serial= channels= low= high= scale= capture= spread= distance=";
+
+// The forms of the fields of a set-up, where one cannot be read or is missing.
+const SETUP_SERIAL_FORM: &str = "serial=N, N from 0 to 4294967295";
+
+const SETUP_CHANNELS_FORM: &str = "channels=N, N from 0 to 255";
+
+const SETUP_LOW_FORM: &str = "low=OCTETS, octets of two hexadecimal digits, or -";
+
+const SETUP_HIGH_FORM: &str = "high=OCTETS, octets of two hexadecimal digits, or -";
+
+const SETUP_SCALE_FORM: &str = "scale=N, N from -128 to 127";
+
+const SETUP_CAPTURE_FORM: &str = "capture=N, N from 0 to 255";
+
+const SETUP_SPREAD_FORM: &str = "spread=N, N from 0 to 65535";
+
+const SETUP_DISTANCE_FORM: &str = "distance=N, N from 0 to 65535";
 
 const SAMPLE_FORM: &str = "sample OCTETS, below, above or nodata, then nothing or: into LENGTH";
 
@@ -53,11 +77,11 @@ const NUMBER_FORM: &str = "a channel and a setpoint from 0 to 255";
 
 const LENGTH_FORM: &str = "a buffer length from 0 to 65535";
 
-fn octets(heap: Global, word: &str) -> Result<Vec<u8>, Problem>
+fn octets(heap: Global, word: &str, expected: &'static str) -> Result<Vec<u8>, Problem>
     ensures { IfOk result (λ v. octets_told word.now ≡ Some v.items) }
 {
     words::octets(heap, word).map_err(|unread| match unread {
-        Unread::Unknown => Problem::Expected(OCTETS_FORM),
+        Unread::Unknown => Problem::Expected(expected),
         Unread::Memory => Problem::Memory(AllocError),
     })
 }
@@ -67,11 +91,15 @@ fn kind(word: &str) -> Result<KindName, Problem> {
         .map_err(|_| Problem::Expected(SENSOR_FORM))
 }
 
+// Decimal digits, and a `-` before them where the type has numbers below 0; `parse` would take a `+` too.
 // Each program has its own: a line that cannot be read is told by another enum.
 fn number<N: FromStr>(text: &str, expected: &'static str) -> Result<N, Problem>
 where
     N::Err: Drop,
 {
+    if text.starts_with('+') {
+        return Err(Problem::Expected(expected));
+    }
     text.parse::<N>().map_err(|_| Problem::Expected(expected))
 }
 
@@ -92,45 +120,48 @@ impl SetupFields {
     // Takes one field; a field that comes again replaces the earlier one.
     fn give(&mut self, heap: Global, key: &str, value: &str) -> Result<(), Problem> {
         match key {
-            "serial" => self.serial = Some(number(value, "serial=N, N from 0 to 4294967295")?),
-            "channels" => self.channels = Some(number(value, "channels=N, N from 0 to 255")?),
-            "low" => self.low = Some(octets(heap, value)?),
-            "high" => self.high = Some(octets(heap, value)?),
-            "scale" => self.scale = Some(number(value, "scale=N, N from -128 to 127")?),
-            "capture" => self.capture = Some(number(value, "capture=N, N from 0 to 255")?),
-            "spread" => self.spread = Some(number(value, "spread=N, N from 0 to 65535")?),
-            "distance" => self.distance = Some(number(value, "distance=N, N from 0 to 65535")?),
+            "serial" => self.serial = Some(number(value, SETUP_SERIAL_FORM)?),
+            "channels" => self.channels = Some(number(value, SETUP_CHANNELS_FORM)?),
+            "low" => self.low = Some(octets(heap, value, SETUP_LOW_FORM)?),
+            "high" => self.high = Some(octets(heap, value, SETUP_HIGH_FORM)?),
+            "scale" => self.scale = Some(number(value, SETUP_SCALE_FORM)?),
+            "capture" => self.capture = Some(number(value, SETUP_CAPTURE_FORM)?),
+            "spread" => self.spread = Some(number(value, SETUP_SPREAD_FORM)?),
+            "distance" => self.distance = Some(number(value, SETUP_DISTANCE_FORM)?),
             _ => return Err(Problem::Expected(SETUP_FORM)),
         }
         Ok(())
     }
 
-    // The set-up, once every field is given.
-    fn complete(self) -> Option<Setup<Vec<u8>>> {
-        Some(Setup {
-            serial: self.serial?,
-            channels: self.channels?,
-            scale: self.scale?,
-            terms: Terms {
-                capture: self.capture?,
-                spread: self.spread?,
-                distance: self.distance?,
-            },
+    // The set-up, once every field is given; else the form of the first that is missing.
+    fn complete(self) -> Result<Setup<Vec<u8>>, Problem> {
+        Ok(Setup {
+            serial: self.serial.ok_or(Problem::Expected(SETUP_SERIAL_FORM))?,
+            channels: self.channels.ok_or(Problem::Expected(SETUP_CHANNELS_FORM))?,
             range: Range {
-                low: self.low?,
-                high: self.high?,
+                low: self.low.ok_or(Problem::Expected(SETUP_LOW_FORM))?,
+                high: self.high.ok_or(Problem::Expected(SETUP_HIGH_FORM))?,
+            },
+            scale: self.scale.ok_or(Problem::Expected(SETUP_SCALE_FORM))?,
+            terms: Terms {
+                capture: self.capture.ok_or(Problem::Expected(SETUP_CAPTURE_FORM))?,
+                spread: self.spread.ok_or(Problem::Expected(SETUP_SPREAD_FORM))?,
+                distance: self.distance.ok_or(Problem::Expected(SETUP_DISTANCE_FORM))?,
             },
         })
     }
 }
 
 fn setup(heap: Global, rest: &str) -> Result<Setup<Vec<u8>>, Problem> {
+    if rest.is_empty() {
+        return Err(Problem::Expected(SETUP_FORM));
+    }
     let mut fields = SetupFields::default();
     for word in rest.split_whitespace() {
-        let (key, value) = word.split_once('=').ok_or(Problem::Expected(SETUP_FORM))?;
+        let (key, value) = word.split_once('=').unwrap_or((word, ""));
         fields.give(heap, key, value)?;
     }
-    fields.complete().ok_or(Problem::Expected(SETUP_FORM))
+    fields.complete()
 }
 
 fn reading(heap: Global, text: &str) -> Result<Reading<Vec<u8>>, Problem> {
@@ -138,11 +169,12 @@ fn reading(heap: Global, text: &str) -> Result<Reading<Vec<u8>>, Problem> {
         "below" => Ok(Reading::Below),
         "above" => Ok(Reading::Above),
         "nodata" => Ok(Reading::NoData),
-        _ => Ok(Reading::Value(octets(heap, text)?)),
+        _ => Ok(Reading::Value(octets(heap, text, OCTETS_FORM)?)),
     }
 }
 
-// What stands before `into LENGTH`, and the length; the usual one where none is given. No octet has the letters of `into`.
+// What stands before `into LENGTH`, and the length; the usual one where none is given. No octet has the letters of
+// `into`.
 fn into_buffer<'a>(rest: &'a str, expected: &'static str) -> Result<(&'a str, u16), Problem> {
     let Some((before, after)) = rest.split_once("into") else {
         return Ok((rest, USUAL_BUFFER));
@@ -165,18 +197,29 @@ fn sample(heap: Global, rest: &str) -> Result<CallLine, Problem> {
     })
 }
 
-// Octets with free spaces between them, and the response buffer.
+// Octets with free spaces between them; `-` alone stands for none.
+fn frame(heap: Global, text: &str) -> Result<Vec<u8>, Problem> {
+    if text == "-" {
+        return Ok(Vec::new(heap));
+    }
+    let mut frame = Vec::new(heap);
+    for word in text.split_whitespace() {
+        if word == "-" {
+            return Err(Problem::Expected(REQUEST_FORM));
+        }
+        frame.extend_from_slice(octets(heap, word, OCTETS_FORM)?.as_slice())?;
+    }
+    Ok(frame)
+}
+
+// A frame, and the response buffer.
 fn request(heap: Global, rest: &str) -> Result<CallLine, Problem> {
     let (text, length) = into_buffer(rest, REQUEST_FORM)?;
     if text.is_empty() {
         return Err(Problem::Expected(REQUEST_FORM));
     }
-    let mut frame = Vec::new(heap);
-    for word in text.split_whitespace() {
-        frame.extend_from_slice(octets(heap, word)?.as_slice())?;
-    }
     Ok(CallLine {
-        call: Call::Request(frame),
+        call: Call::Request(frame(heap, text)?),
         room: length,
     })
 }
@@ -202,7 +245,7 @@ fn write(heap: Global, rest: &str) -> Result<Call<Vec<u8>>, Problem> {
         number(serial, SERIAL_FORM)?,
         number(channel, NUMBER_FORM)?,
         number(setpoint, NUMBER_FORM)?,
-        octets(heap, value)?,
+        octets(heap, value, OCTETS_FORM)?,
     ))
 }
 
@@ -245,8 +288,9 @@ fn by_word(heap: Global, word: &str, rest: &str) -> Result<Line, Problem> {
     }
 }
 
-// What a line of a script asks for.
-pub(crate) fn read_line(heap: Global, text: &str) -> Result<Line, Problem> {
+/// What a line of a script asks for; the line is given by its octets, without the one that ends it.
+pub(crate) fn read_line(heap: Global, octets: &[u8]) -> Result<Line, Problem> {
+    let text = str::from_utf8(octets).map_err(|_| Problem::Expected(TEXT_FORM))?;
     let text = uncommented(text).trim();
     if text.is_empty() {
         return Ok(Line::Blank);

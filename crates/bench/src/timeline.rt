@@ -1,9 +1,10 @@
-// The signals of each channel over the accepted samples of a day.
-use days::call::{Call, Channel, Entry, Reply};
-use kinds::kind::Kind;
+//! The signals of each channel over the accepted samples of a day.
+use days::{Call, Channel, Entry, Reply};
+use kinds::Kind;
 use std::alloc::{AllocError, Global};
 use std::fmt;
 
+/// The accepted samples of a day.
 #[derive(Drop)]
 pub(crate) struct Timeline<'a, K> {
     // The channels after each sample.
@@ -11,17 +12,19 @@ pub(crate) struct Timeline<'a, K> {
 }
 
 impl<'a, K: Kind> Timeline<'a, K> {
+    /// A day without a sample.
     pub(crate) fn new(heap: Global) -> Timeline<'a, K> {
         Timeline {
             samples: Vec::new(heap),
         }
     }
 
+    /// Begins a new day.
     pub(crate) fn clear(&mut self) {
         self.samples.clear();
     }
 
-    // Takes an entry, if it is of an accepted sample.
+    /// Takes an entry, if it is of an accepted sample. An error is want of memory.
     pub(crate) fn take(
         &mut self,
         call: &Call<Vec<u8>>,
@@ -33,16 +36,17 @@ impl<'a, K: Kind> Timeline<'a, K> {
         Ok(())
     }
 
+    /// How many samples it has.
     pub(crate) fn samples(&self) -> usize {
         self.samples.len()
     }
 
-    // How many channels a day has does not change.
+    /// How many channels the sensor has; within a day this does not change.
     pub(crate) fn channels(&self) -> usize {
         self.samples.last().map_or(0, |channels| channels.len())
     }
 
-    // The signals of a channel, counted from 0.
+    /// The signals of a channel, counted from 0.
     pub(crate) fn signals(&self, channel: usize) -> Signals<'_, K> {
         Signals {
             samples: self.samples.as_slice(),
@@ -51,7 +55,7 @@ impl<'a, K: Kind> Timeline<'a, K> {
     }
 }
 
-// The signals of one channel: `#` for 1 and `_` for 0.
+/// The signals of one channel: `#` for 1 and `_` for 0.
 #[derive(Clone, Copy)]
 pub(crate) struct Signals<'a, K> {
     samples: &'a [&'a [Channel<K>]],

@@ -1,12 +1,10 @@
-// Tests of judging and signals on worked cases.
+//! Tests of judging and signals on worked cases, most of them those of docs/RULES.md, "Judging".
 #![tactic(auto)]
 
 #[cfg(test)]
 mod tests {
-    use channels::reading::Reading;
-    use channels::row::Row;
-    use kinds::integer_t16::IntegerT16;
-    use kinds::kind::Kind;
+    use channels::{Reading, Row};
+    use kinds::{IntegerT16, Kind};
     use std::process::Abort;
     use std::test::Fail;
 

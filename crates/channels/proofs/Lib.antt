@@ -1,3 +1,3 @@
 mod Packing
-pub mod Blocks
+pub mod ProcessData
 mod Backward

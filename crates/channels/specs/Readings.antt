@@ -6,23 +6,23 @@ use Rattle.channels.specs.declared.reading.Reading.TheVariants.{Value, Below, Ab
 
 module _ {V : Type 0} (m : Meaning V) where
   -- a value under the range counts as Below, over it as Above
-  abbrev pub counted : V → V → Reading V → Reading V
-  counted low high (Value v) = cond (under m v low) Below (cond (under m high v) Above (Value v))
-  counted low high Below = Below
-  counted low high Above = Above
-  counted low high NoData = NoData
+  abbrev pub within : V → V → Reading V → Reading V
+  within low high (Value v) = cond (under m v low) Below (cond (under m high v) Above (Value v))
+  within low high Below = Below
+  within low high Above = Above
+  within low high NoData = NoData
 
   -- the octets of a value, or of what stands in its place
-  abbrev pub shown : Reading V → List ℕ
-  shown (Value v) = m.octets v
-  shown Below = m.below_substitute
-  shown Above = m.above_substitute
-  shown NoData = m.no_data_substitute
+  abbrev pub reading_octets : Reading V → List ℕ
+  reading_octets (Value v) = m.octets v
+  reading_octets Below = m.below_substitute
+  reading_octets Above = m.above_substitute
+  reading_octets NoData = m.no_data_substitute
 
   -- process data: the octets of the reading, the scale octet, the octet of signals
-  abbrev pub block : Reading V → ℕ → ℕ → List ℕ
-  block r scale signals = shown r ++ (scale ∷ signals ∷ [])
+  abbrev pub process_data : Reading V → ℕ → ℕ → List ℕ
+  process_data r scale signals = reading_octets r ++ (scale ∷ signals ∷ [])
 
   -- two octets more than a value has
-  abbrev pub block_length : ℕ
-  block_length = m.width + 2
+  abbrev pub process_data_length : ℕ
+  process_data_length = m.width + 2

@@ -1,10 +1,11 @@
 -- The channel table under a reading, and the octet of signals.
-use Rattle.std.specs.Prelude.{ℕ, zero, suc, ◌+◌, ◌-◌, ◌*◌, min, Bool, false, cond, ◌&&◌, List, [], ◌∷◌, ◌++◌, map, take, drop, replicate, Some, None, Option, nat_le, slice_set}
+use Rattle.std.specs.Prelude.{ℕ, zero, suc, ◌+◌, ◌-◌, ◌*◌, min, Bool, false, cond, ◌&&◌, nat_le}
+use Rattle.std.specs.Prelude.{List, [], ◌∷◌, ◌++◌, map, take, drop, replicate, slice_set, Some, None, Option}
 use Rattle.kinds.specs.Meaning.{Meaning}
 use Rattle.channels.specs.declared.reading.Reading.{Reading}
 use Rattle.channels.specs.declared.row.Row.{Row}
 use Rattle.channels.specs.declared.table.Table.{Table}
-use Rattle.channels.specs.Judging.{judged, signal}
+use Rattle.channels.specs.Judging.{judged, signal, single_point}
 
 -- every row is judged
 abbrev pub judged_rows : {V : Type 0} → Meaning V → Reading V → List (Row V) → List (Row V)
@@ -39,19 +40,22 @@ module _ {V : Type 0} where
 
   -- a reading judges every channel by its settings
   abbrev pub judged_table : Meaning V → Reading V → Table V → Table V
-  judged_table m reading t = record { rows = judged_rows m reading (present t) ++ drop (rows_present t) t.rows; count = t.count }
+  judged_table m reading t = record {
+    rows = judged_rows m reading (present t) ++ drop (rows_present t) t.rows;
+    count = t.count;
+  }
 
-  -- a row at rest: its settings stay, its state is inactive
-  abbrev pub rested : Row V → Row V
-  rested r = record r { active = false }
+  -- an inactive row: its settings are as they were
+  abbrev pub inactive_row : Row V → Row V
+  inactive_row r = record r { active = false }
 
-  -- every channel is at rest
-  abbrev pub rested_table : Table V → Table V
-  rested_table t = record { rows = map rested (present t) ++ drop (rows_present t) t.rows; count = t.count }
+  -- every channel is inactive
+  abbrev pub inactive_table : Table V → Table V
+  inactive_table t = record { rows = map inactive_row (present t) ++ drop (rows_present t) t.rows; count = t.count }
 
   -- after set-up: SP1 low, SP2 high, logic 0, mode 1, hysteresis 0, inactive
   abbrev pub fresh_row : V → V → Row V
-  fresh_row low high = record { sp1 = low; sp2 = high; hysteresis = 0; logic = 0; mode = 1; active = false }
+  fresh_row low high = record { sp1 = low; sp2 = high; hysteresis = 0; logic = 0; mode = single_point; active = false }
 
   abbrev pub fresh_table : ℕ → V → V → Table V
   fresh_table count low high = record { rows = replicate most_channels (fresh_row low high); count = count }

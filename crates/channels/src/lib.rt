@@ -1,7 +1,14 @@
-// Switching channels: how a reading is judged, what each channel signals, and the process data.
+//! Switching channels: how a reading is judged, what each channel signals, and the process data.
+//!
+//! docs/RULES.md, "Readings and range", "Judging" and "Process data", has the rules.
 #![tactic(auto)]
 
-pub mod range;
-pub mod reading;
-pub mod row;
-pub mod table;
+mod range;
+mod reading;
+mod row;
+mod table;
+
+pub use range::Range;
+pub use reading::{Reading, process_data_length};
+pub use row::Row;
+pub use table::Table;

@@ -1,32 +1,37 @@
-// A reading of the sensor: a value, or why there is none. No `Result`: Below and Above are readings too and are shown, and no
-// call fails by them.
-ghost use Rattle.channels.specs.Readings.{block, block_length, counted, shown};
+ghost use Rattle.channels.specs.Readings.{process_data, process_data_length, within, reading_octets};
 ghost use Rattle.octets.specs.Buffers.{fitting, placed};
 ghost use Rattle.std.specs.Prelude.{◌≡◌};
 
 use super::range::Range;
-use kinds::kind::Kind;
+use kinds::Kind;
 use octets::put;
 
+/// A reading of the sensor: a value, or why there is none.
+// No `Result`: Below and Above are readings too and are shown, and no call fails by them.
 #[derive(Clone, Copy)]
 pub enum Reading<T> {
+    /// A value, which may be outside the range until `within` has counted it.
     Value(T),
+    /// Below the range.
     Below,
+    /// Above the range.
     Above,
+    /// Nothing was measured.
     NoData,
 }
 
-// How many octets process data has.
-pub fn block_length<K: Kind>() -> usize
-    ensures { result ≡ block_length {V = K} K.meaning }
+/// How many octets process data has: two more than a value, so 4 for IntegerT16, and 6 for IntegerT32 and Float32T.
+pub fn process_data_length<K: Kind>() -> usize
+    ensures { result ≡ process_data_length {V = K} K.meaning }
 {
     K::width() + 2
 }
 
 impl<K: Kind> Reading<K> {
-    // A value under the range counts as Below, one over it as Above.
+    /// The reading as the range counts it: a value below the low end is Below, one above the high end is Above. The
+    /// ends are in the range.
     pub fn within(self, range: Range<K>) -> Reading<K>
-        ensures { result ≡ counted K.meaning range.low range.high self }
+        ensures { result ≡ within K.meaning range.low range.high self }
     {
         match self {
             Reading::Value(v) if v.is_under(range.low) => Reading::Below,
@@ -37,8 +42,8 @@ impl<K: Kind> Reading<K> {
 
     // Writes the octets of the value, or its substitute.
     fn write(self, out: &mut [u8]) -> Option<usize>
-        ensures answer { result ≡ fitting (shown K.meaning self) out.old }
-        ensures buffer { out.new ≡ placed (shown K.meaning self) out.old }
+        ensures answer { result ≡ fitting (reading_octets K.meaning self) out.old }
+        ensures buffer { out.new ≡ placed (reading_octets K.meaning self) out.old }
     {
         match self {
             Reading::Value(v) => v.write(out),
@@ -48,14 +53,16 @@ impl<K: Kind> Reading<K> {
         }
     }
 
-    // Writes process data: the reading, the scale, the octet of signals. Room is tested first, as without room nothing is
-    // written.
-    pub fn show(self, scale: u8, signals: u8, out: &mut [u8]) -> Option<usize>
-        ensures answer { result ≡ fitting (block K.meaning self scale signals) out.old }
-        ensures buffer { out.new ≡ placed (block K.meaning self scale signals) out.old }
+    /// Writes process data over the front of `out` and answers how many octets it has: those of the value or its
+    /// substitute, the scale octet, the octet of signals. NoData of IntegerT16 with scale -1 and signals 0 is
+    /// 7F FC FF 00. Without room it writes nothing and answers `None`.
+    pub fn write_process_data(self, scale: u8, signals: u8, out: &mut [u8]) -> Option<usize>
+        ensures answer { result ≡ fitting (process_data K.meaning self scale signals) out.old }
+        ensures buffer { out.new ≡ placed (process_data K.meaning self scale signals) out.old }
     {
         let width = K::width();
-        if out.len() < block_length::<K>() {
+        // Room is tested first, as without room nothing is written.
+        if out.len() < process_data_length::<K>() {
             return None;
         }
         let _ = self.write(out);

@@ -1,22 +1,27 @@
-// The channel table: rows of plain codes, of which the first `count` are present. Eight rows are kept, as there is no heap,
-// and a count beside them, as the definitions give every count a meaning.
-ghost use Rattle.channels.specs.Table.{fresh_table, has_channel, judged_table, present as present_rows, rested_table, row_at, rows_present, signals_octet, with_row};
+ghost use Rattle.channels.specs.Table.{fresh_table, has_channel, judged_table, present as present_rows};
+ghost use Rattle.channels.specs.Table.{inactive_table, row_at, rows_present, signals_octet, with_row};
 ghost use Rattle.std.specs.Prelude.{◌≡◌, length};
 
 use super::range::Range;
 use super::reading::Reading;
 use super::row::Row;
-use kinds::kind::Kind;
+use kinds::Kind;
 
+/// The channel table: eight rows, of which the first `count` are present.
+// Eight rows are kept, as there is no heap, and a count of those that are present. It has no invariant: the definitions
+// give every count a meaning.
 #[derive(Drop)]
 pub struct Table<K> {
+    /// The channel count, 1 to 8 in a sensor that is set up.
     pub count: u8,
-    // That they are eight is said by clauses: as a ghost field it would be a proof in every definition that gives a table.
+    /// The row of channel 1 first.
+    // That they are eight is said by clauses: as a ghost field it would be a proof in every definition that gives a
+    // table.
     pub rows: [Row<K>; 8],
 }
 
 impl<K: Kind> Table<K> {
-    // The table after set-up: SP1 and SP2 at the range's ends, logic 0, Single Point, hysteresis 0, inactive.
+    /// The table after set-up: SP1 and SP2 at the range's ends, logic 0, Single Point, hysteresis 0, inactive.
     pub fn fresh(count: u8, range: Range<K>) -> Table<K>
         ensures { result ≡ fresh_table count range.low range.high }
     {
@@ -34,7 +39,7 @@ impl<K: Kind> Table<K> {
         }
     }
 
-    // How many rows are present.
+    /// How many rows are present: `count`, and 8 where it is over 8.
     pub fn len(&self) -> usize
         ensures count { result ≡ rows_present self.now }
         ensures eight { length self.now.rows ≡ 8 }
@@ -44,15 +49,16 @@ impl<K: Kind> Table<K> {
         usize::from(self.count).min(rows.len())
     }
 
-    // The rows of the channels that are present, channel 1 first.
+    /// The rows of the channels that are present, channel 1 first.
     pub fn present(&self) -> &[Row<K>]
         ensures { result.now ≡ present_rows self.now }
     {
         &self.rows[..self.len()]
     }
 
-    // Judges every channel by the reading, and answers the octet of the signals that follow.
-    pub fn pass(&mut self, reading: Reading<K>) -> u8
+    /// Judges every channel by a reading that the range has counted, and answers the octet of the signals that follow:
+    /// bit k-1 is the signal of channel k, so 03 where channels 1 and 2 are on. Bits of absent channels are 0.
+    pub fn judge(&mut self, reading: Reading<K>) -> u8
         ensures table { self.new ≡ judged_table K.meaning reading self.old }
         ensures signals { result ≡ signals_octet self.new }
     {
@@ -66,9 +72,9 @@ impl<K: Kind> Table<K> {
         signals
     }
 
-    // Makes every channel inactive. All settings stay.
-    pub fn rest(&mut self)
-        ensures { self.new ≡ rested_table self.old }
+    /// Makes every channel inactive. All settings stay.
+    pub fn make_inactive(&mut self)
+        ensures { self.new ≡ inactive_table self.old }
     {
         let n = self.len();
         for row in &mut self.rows[..n] {
@@ -76,7 +82,7 @@ impl<K: Kind> Table<K> {
         }
     }
 
-    // Whether a channel is present; channels count from 1.
+    /// Whether a channel, counted from 1, is present.
     pub fn has(&self, channel: u8) -> bool
         ensures present { result ≡ has_channel self.now channel }
         ensures eight { length self.now.rows ≡ 8 }
@@ -86,7 +92,7 @@ impl<K: Kind> Table<K> {
         channel >= 1 && channel <= self.count && usize::from(channel) <= rows.len()
     }
 
-    // The row of a channel, if it is present.
+    /// The row of a channel, counted from 1, if it is present.
     pub fn row(&self, channel: u8) -> Option<Row<K>>
         ensures { result ≡ row_at self.now channel }
     {
@@ -96,8 +102,9 @@ impl<K: Kind> Table<K> {
         self.rows.get(usize::from(channel) - 1).copied()
     }
 
-    // Gives a channel another row; one that is not present stays away. Rows are read and put back, not lent: the clause of a
-    // lent row, by `get_mut` too, would have to say what each write through it leaves.
+    /// Gives a channel, counted from 1, another row. If it is not present nothing changes.
+    // Rows are read and put back, not lent: the clause of a lent row, by `get_mut` too, would have to say what each
+    // write through it leaves.
     pub fn replace(&mut self, channel: u8, row: Row<K>)
         ensures { self.new ≡ with_row self.old channel row }
     {

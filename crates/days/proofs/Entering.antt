@@ -5,20 +5,20 @@ use Rattle.kinds.specs.Meaning.{Meaning}
 use Rattle.channels.specs.declared.row.Row.{Row}
 use Rattle.sensor.specs.declared.sensor.Sensor.{Sensor}
 use Rattle.sensor.specs.Calls.{Call}
-use Rattle.sensor.specs.Rules.{channels_of, entries, entry_of, next, shown}
+use Rattle.sensor.specs.Rules.{channels_of, entries, entry_of, next, with_signal}
 use Rattle.days.specs.declared.call.Channel.{Channel}
 use Rattle.days.specs.declared.call.Entry.{Entry}
 use Rattle.days.specs.declared.call.Line.{Line}
 use Rattle.days.specs.Told.{call_of, channel_of, channel_told, entry_told}
 
 -- the channels of an entry
-channels_told : {V : Type 0} (rows : List (Row V)) → map channel_told (map channel_of rows) ≡ map shown rows
+channels_told : {V : Type 0} (rows : List (Row V)) → map channel_told (map channel_of rows) ≡ map with_signal rows
 channels_told [] = refl
-channels_told (r ∷ rows) = ap (λ rest. shown r ∷ rest) (channels_told rows)
+channels_told (r ∷ rows) = ap (λ rest. with_signal r ∷ rest) (channels_told rows)
 
 pub channels_shown : {V : Type 0} (s t : Sensor V) (channels : List (Channel V)) → channels ≡ map channel_of (channels_of s) → s ≡ t
-    → map channel_told channels ≡ map shown (channels_of t)
-channels_shown s t channels e i = ap (map channel_told) e ∙ channels_told (channels_of s) ∙ ap (λ x. map shown (channels_of x)) i
+    → map channel_told channels ≡ map with_signal (channels_of t)
+channels_shown s t channels e i = ap (map channel_told) e ∙ channels_told (channels_of s) ∙ ap (λ x. map with_signal (channels_of x)) i
 
 -- the sensor after a call that is known by another name
 pub next_by_name : {V : Type 0} (m : Meaning V) (s t : Sensor V) (c d : Call) → t ≡ next m s c → c ≡ d → t ≡ next m s d

@@ -7,10 +7,13 @@ use Rattle.faults.specs.declared.Denial.TheVariants.{AlreadyOpen, BufferTooShort
 use Rattle.faults.specs.Denials.{fault, then}
 use Rattle.isdu.specs.Decoding.{decoded}
 use Rattle.isdu.specs.Requests.{Asked}
+use Rattle.keypad.specs.declared.Ticket.{Ticket}
+use Rattle.keypad.specs.declared.Unclosed.{Unclosed}
+use Rattle.keypad.specs.Operations.{returned, serial_of, ticket_of, ticketed}
 use Rattle.kinds.specs.Meaning.{Meaning}
 use Rattle.channels.specs.declared.range.Range as Ranges
 use Rattle.channels.specs.declared.reading.Reading.{Reading}
-use Rattle.channels.specs.Readings.{block_length, counted}
+use Rattle.channels.specs.Readings.{process_data_length, within}
 use Rattle.channels.specs.Table.{most_channels}
 use Rattle.teach.specs.declared.teaching.Store.{Store}
 use Rattle.teach.specs.Teaching.{is_idle}
@@ -18,21 +21,18 @@ use Rattle.objects.specs.declared.access.Access.{Access}
 use Rattle.objects.specs.declared.access.Access.TheVariants.{Read, Write}
 use Rattle.objects.specs.Objects.{access_checked, from_to, place_of}
 use Rattle.sensor.specs.declared.device.Device.{Device}
-use Rattle.sensor.specs.declared.keypad.Ticket.{Ticket}
-use Rattle.sensor.specs.declared.keypad.Unclosed.{Unclosed}
 use Rattle.sensor.specs.declared.sensor.Sensor.{Sensor}
 use Rattle.sensor.specs.declared.setup.Setup.{Setup}
-use Rattle.sensor.specs.Answers.{returned, ticketed}
-use Rattle.sensor.specs.Calls.{Call, set_up, sample, request, open_keypad, write_keypad, close_keypad, restart, Act, starts, opens, closes, to_close, to_open, to_sample, to_write}
+use Rattle.sensor.specs.Calls.{Call, set_up, sample, request, open_keypad, write_keypad, close_keypad, restart, Act, starts, opens, closes, to_close, to_sample, to_write}
 use Rattle.sensor.specs.Devices.{setpoint_setting}
-use Rattle.sensor.specs.Keypad.{keypad_checked, serial_of, ticket_of}
-use Rattle.sensor.specs.Requests.{access_asked, asked_of, request_asked, write_asked}
+use Rattle.sensor.specs.Keypad.{keypad_checked}
+use Rattle.sensor.specs.Requests.{access_asked, asked_of, request_asked, response_room, write_asked}
 use Rattle.sensor.specs.Rules.{carried, checked, checked_by, device_by, keypad_open, next, next_by, serial}
 use Rattle.sensor.specs.Samples.{reading_of, sample_asked}
 use Rattle.sensor.specs.Setups.{ends_checked, fresh_device, lawful_range, range_checked, set_up_checked}
 use Rattle.sensor.proofs.Orders.{Writing, write_writes}
 use Rattle.sensor.proofs.Starting.{denied_next, set_up_is}
-use Rattle.days.specs.Kept.{TakesBack, due, due_from}
+use Rattle.days.specs.Kept.{due, due_from}
 
 some_ticket : (t u : Ticket) → Some t ≡ Some u → t ≡ u
 some_ticket t u e = cc
@@ -62,9 +62,9 @@ module _ {V : Type 0} (m : Meaning V) where
 
   sample_leaves : (d : Device V) (o : Option (Reading V)) (room : ℕ) → IfOk (carried m d (sample_asked m d o room)) Leaves
   sample_leaves d None room = tt
-  sample_leaves d (Some r) room = go (ltb room (block_length m))
+  sample_leaves d (Some r) room = go (ltb room (process_data_length m))
     where
-      go : (b : Bool) → IfOk (carried m d (cond b (Err (fault BufferTooShort)) (Ok (to_sample (counted m d.range.low d.range.high r))))) Leaves
+      go : (b : Bool) → IfOk (carried m d (cond b (Err (fault BufferTooShort)) (Ok (to_sample (within m d.range.low d.range.high r))))) Leaves
       go true = tt
       go false = tt
 
@@ -81,12 +81,12 @@ module _ {V : Type 0} (m : Meaning V) where
   access_leaves d place (Ok (Write w)) = writing_leaves (carried m d (write_asked m d place w)) (write_writes m d place w)
 
   request_leaves : (d : Device V) (frame : List ℕ) (room : ℕ) → IfOk (carried m d (request_asked m d frame room)) Leaves
-  request_leaves d frame room = go (ltb room 16) (decoded frame)
+  request_leaves d frame room = go (ltb room response_room) (decoded frame)
     where
       go : (b : Bool) (a : Result Asked Fault) → IfOk (carried m d (cond b (Err (fault ResponseBuffer)) (then a (asked_of m d)))) Leaves
       go true a = tt
       go false (Err f) = tt
-      go false (Ok a) = access_leaves d (place_of a) (access_checked m d.channels d.keypad a)
+      go false (Ok a) = access_leaves d (place_of a) (access_checked m d.channels d.keypad.is_open a)
 
   write_leaves : (d : Device V) (k : ℕ) (x : Result (Store V) Fault) → IfOk (carried m d (then x (λ s. Ok (to_write k (setpoint_setting s.setpoint s.value ∷ []))))) Leaves
   write_leaves d k (Err f) = tt
@@ -95,7 +95,7 @@ module _ {V : Type 0} (m : Meaning V) where
   -- ---- a set-up: it meets no open operation, and leaves none
 
   abbrev NoneOpen : Bool → Device V → Type 0
-  NoneOpen keypad e = (keypad ≡ false) × (e.keypad ≡ false)
+  NoneOpen keypad e = (keypad ≡ false) × (e.keypad.is_open ≡ false)
 
   set_up_closed : (keypad : Bool) (g : Setup (List ℕ)) → IfOk (set_up_checked m keypad g) (NoneOpen keypad)
   set_up_closed true g = tt
@@ -113,7 +113,7 @@ module _ {V : Type 0} (m : Meaning V) where
 
   none_due : (o : Option (Device V)) → keypad_open (record { device = o }) ≡ false → due_from o ≡ None
   none_due None e = refl
-  none_due (Some d) e = ap (λ (b : Bool). cond b (Some (ticket_of d.serial)) None) e
+  none_due (Some d) e = ap (λ (b : Bool). cond b (Some (ticket_of d.keypad.serial)) None) e
 
   set_up_left : (o : Option (Device V)) (y : Result (Device V) Fault) → IfOk y (NoneOpen (keypad_open (record { device = o })))
       → due_from (next_by m o (then y (λ e. Ok (starts e)))) ≡ due_from o
@@ -150,22 +150,21 @@ module _ {V : Type 0} (m : Meaning V) where
 
   -- ---- openings
 
+  -- what an opening comes to, by whether an operation is open and whether the teach is idle
+  abbrev opening_by : Bool → Bool → Result (Act V) Fault
+  opening_by a b = then (cond a (Err (fault AlreadyOpen)) (cond (not b) (Err (fault TeachRunning)) (Ok (tt {0})))) (λ _. Ok opens)
+
   -- an opening that is accepted meets no ticket that is due, and gives the one that then is
-  open_by : (d : Device V) (t : Ticket) (a : Bool) → d.keypad ≡ a
-      → Ok t ≡ ticketed d.serial (carried m d (cond a (Err (fault AlreadyOpen)) (Ok to_open)))
-      → (due_from (Some d) ≡ None) × (Some t ≡ due_from (Some (device_by m d (carried m d (cond a (Err (fault AlreadyOpen)) (Ok to_open))))))
-  open_by d t true i e = cc
-  open_by d t false i e = go (is_idle d.teach.state) e
-    where
-      go : (b : Bool) → Ok t ≡ ticketed {V = V} d.serial (cond b (Ok opens) (Err (fault TeachRunning)))
-          → (due_from (Some d) ≡ None) × (Some t ≡ due_from (Some (device_by m d (cond b (Ok opens) (Err (fault TeachRunning))))))
-      go true e = (none_due (Some d) i, cc)
-      go false e = cc
+  open_by : (d : Device V) (t : Ticket) (a b : Bool) → d.keypad.is_open ≡ a → Ok t ≡ ticketed d.keypad.serial (opening_by a b)
+      → (due_from (Some d) ≡ None) × (Some t ≡ due_from (Some (device_by m d (opening_by a b))))
+  open_by d t true b i e = cc
+  open_by d t false true i e = (none_due (Some d) i, cc)
+  open_by d t false false i e = cc
 
   open_from : (o : Option (Device V)) (n : ℕ) (t : Ticket) → n ≡ serial (record { device = o }) → Ok t ≡ ticketed n (checked_by m o open_keypad)
       → (due_from o ≡ None) × (Some t ≡ due_from (next_by m o (checked_by m o open_keypad)))
   open_from None n t i e = cc
-  open_from (Some d) n t i e = open_by d t d.keypad refl (e ∙ ap (λ k. ticketed k (checked_by m (Some d) open_keypad)) i)
+  open_from (Some d) n t i e = open_by d t d.keypad.is_open (is_idle d.teach.state) refl (e ∙ ap (λ k. ticketed k (checked_by m (Some d) open_keypad)) i)
 
   pub opening : (s : Sensor V) (t : Ticket) → Ok t ≡ ticketed (serial s) (checked m s open_keypad)
       → (due s ≡ None) × (Some t ≡ due (next m s open_keypad))
@@ -191,13 +190,13 @@ module _ {V : Type 0} (m : Meaning V) where
   closing_by d a b = carried m d (then (cond (not a) (Err (fault OtherSerial)) (cond (not b) (Err (fault NotOpen)) (Ok (tt {0})))) (λ _. Ok to_close))
 
   -- a sensor takes back the ticket that is due, which bears its serial number
-  takes_back_by : (d : Device V) (t : Ticket) (b : Bool) → d.keypad ≡ b → Some t ≡ cond b (Some (ticket_of d.serial)) None
-      → (checked_by m (Some d) (close_keypad (serial_of t)) ≡ Ok closes) × (serial_of t ≡ d.serial)
+  takes_back_by : (d : Device V) (t : Ticket) (b : Bool) → d.keypad.is_open ≡ b → Some t ≡ cond b (Some (ticket_of d.keypad.serial)) None
+      → (checked_by m (Some d) (close_keypad (serial_of t)) ≡ Ok closes) × (serial_of t ≡ d.keypad.serial)
   takes_back_by d t false i e = cc
   takes_back_by d t true i e =
-      let same = some_ticket t (ticket_of d.serial) e in
-      let n : serial_of t ≡ d.serial = ap serial_of same in (
-        ap (λ k. checked_by m (Some d) (close_keypad k)) n ∙ go (eqb d.serial d.serial) d.keypad (eq-eqb d.serial d.serial refl) i,
+      let same = some_ticket t (ticket_of d.keypad.serial) e in
+      let n : serial_of t ≡ d.keypad.serial = ap serial_of same in (
+        ap (λ k. checked_by m (Some d) (close_keypad k)) n ∙ go (eqb d.keypad.serial d.keypad.serial) d.keypad.is_open (eq-eqb d.keypad.serial d.keypad.serial refl) i,
         n,
       )
     where
@@ -209,9 +208,9 @@ module _ {V : Type 0} (m : Meaning V) where
   takes_back_from : (o : Option (Device V)) (t : Ticket) → Some t ≡ due_from o
       → (checked_by m o (close_keypad (serial_of t)) ≡ Ok closes) × (serial_of t ≡ serial (record { device = o }))
   takes_back_from None t e = cc
-  takes_back_from (Some d) t e = takes_back_by d t d.keypad refl e
+  takes_back_from (Some d) t e = takes_back_by d t d.keypad.is_open refl e
 
-  pub takes_back : (s : Sensor V) (t : Ticket) → Some t ≡ due s → TakesBack m s (serial_of t) × (serial_of t ≡ serial s)
+  pub takes_back : (s : Sensor V) (t : Ticket) → Some t ≡ due s → (checked m s (close_keypad (serial_of t)) ≡ Ok closes) × (serial_of t ≡ serial s)
   unfolding checked
   takes_back s t e = takes_back_from s.device t e
 
@@ -223,21 +222,21 @@ module _ {V : Type 0} (m : Meaning V) where
   closes_with_its_own s t u k e = not_refused t (checked m s (close_keypad (serial_of t))) u (takes_back s t k).0 e
 
   -- a closing that is accepted takes the ticket that is due, and leaves none
-  close_by : (d : Device V) (t : Ticket) (a b : Bool) → eqb d.serial (serial_of t) ≡ a → d.keypad ≡ b
+  close_by : (d : Device V) (t : Ticket) (a b : Bool) → eqb d.keypad.serial (serial_of t) ≡ a → d.keypad.is_open ≡ b
       → Ok tt ≡ returned t (closing_by d a b)
       → (due_from (Some d) ≡ Some (ticket_of (serial_of t)))
       × (None ≡ due_from (Some (device_by m d (closing_by d a b))))
   close_by d t false b i j e = cc
   close_by d t true false i j e = cc
   close_by d t true true i j e = (
-    ap (λ (b : Bool). cond b (Some (ticket_of d.serial)) None) j ∙ ap (λ n. Some (ticket_of n)) (eqb-true d.serial (serial_of t) i),
+    ap (λ (b : Bool). cond b (Some (ticket_of d.keypad.serial)) None) j ∙ ap (λ n. Some (ticket_of n)) (eqb-true d.keypad.serial (serial_of t) i),
     refl,
   )
 
   close_from : (o : Option (Device V)) (t : Ticket) → Ok tt ≡ returned t (checked_by m o (close_keypad (serial_of t)))
       → (due_from o ≡ Some (ticket_of (serial_of t))) × (None ≡ due_from (next_by m o (checked_by m o (close_keypad (serial_of t)))))
   close_from None t e = cc
-  close_from (Some d) t e = close_by d t (eqb d.serial (serial_of t)) d.keypad refl refl e
+  close_from (Some d) t e = close_by d t (eqb d.keypad.serial (serial_of t)) d.keypad.is_open refl refl e
 
   pub closing : (s : Sensor V) (t : Ticket) → Ok tt ≡ returned t (checked m s (close_keypad (serial_of t)))
       → (due s ≡ Some (ticket_of (serial_of t))) × (None ≡ due (next m s (close_keypad (serial_of t))))
@@ -267,9 +266,9 @@ module _ {V : Type 0} (m : Meaning V) where
   -- where none is due, a closing changes nothing
   none_closed_from : (o : Option (Device V)) (n : ℕ) → None ≡ due_from o → o ≡ next_by m o (checked_by m o (close_keypad n))
   none_closed_from None n e = refl
-  none_closed_from (Some d) n e = go (eqb d.serial n) d.keypad e
+  none_closed_from (Some d) n e = go (eqb d.keypad.serial n) d.keypad.is_open e
     where
-      go : (a b : Bool) → None ≡ cond b (Some (ticket_of d.serial)) None
+      go : (a b : Bool) → None ≡ cond b (Some (ticket_of d.keypad.serial)) None
           → Some d ≡ Some (device_by m d (closing_by d a b))
       go a true e = cc
       go true false e = refl

@@ -9,16 +9,16 @@ use Rattle.isdu.specs.declared.Direction.{Direction}
 use Rattle.isdu.specs.Decoding.{decoded}
 use Rattle.isdu.specs.Requests.{Asked}
 use Rattle.isdu.proofs.Unanswered.{Unanswered, unanswered}
+use Rattle.keypad.specs.declared.Ticket.{Ticket}
+use Rattle.keypad.specs.declared.Unclosed.{Unclosed}
+use Rattle.keypad.specs.Operations.{returned, serial_of, ticket_of, ticketed}
 use Rattle.kinds.specs.Meaning.{Meaning}
 use Rattle.channels.specs.declared.reading.Reading.{Reading}
 use Rattle.sensor.specs.declared.device.Device.{Device}
-use Rattle.sensor.specs.declared.keypad.Ticket.{Ticket}
-use Rattle.sensor.specs.declared.keypad.Unclosed.{Unclosed}
 use Rattle.sensor.specs.declared.sensor.Sensor.{Sensor}
-use Rattle.sensor.specs.Answers.{counted, plain, returned, ticketed}
+use Rattle.sensor.specs.Answers.{counted, plain}
 use Rattle.sensor.specs.Calls.{Call, sample, request, open_keypad, close_keypad, Act, accepted, denied}
-use Rattle.sensor.specs.Keypad.{serial_of, ticket_of}
-use Rattle.sensor.specs.Requests.{asked_of, negative, refused}
+use Rattle.sensor.specs.Requests.{asked_of, negative, refused, response_room}
 use Rattle.sensor.specs.Rules.{carried, checked, checked_by, reply, reply_by, serial, written, written_by}
 use Rattle.days.specs.declared.call.Reply.{Reply}
 use Rattle.days.specs.declared.call.Reply.TheVariants.{Accepted, Ticket as TicketTold, Denied}
@@ -145,7 +145,7 @@ module _ {V : Type 0} (m : Meaning V) where
       → responded_told (counted (written_by m o (request frame room) (checked_by m o (request frame room))) (checked_by m o (request frame room)))
       ≡ numbered (reply_by m n (request frame room) (written_by m o (request frame room) (checked_by m o (request frame room))) (checked_by m o (request frame room)))
   request_by n None frame room = refl
-  request_by n (Some d) frame room = go (checked_by m (Some d) (request frame room)) (silent d (ltb room 16) (decoded frame) (unanswered frame))
+  request_by n (Some d) frame room = go (checked_by m (Some d) (request frame room)) (silent d (ltb room response_room) (decoded frame) (unanswered frame))
     where
       go : (x : Result (Act V) Fault) → Silent (decoded frame) x
           → responded_told (counted (written_by m (Some d) (request frame room) x) x) ≡ numbered (reply_by m n (request frame room) (written_by m (Some d) (request frame room) x) x)

@@ -5,7 +5,6 @@ use Rattle.std.specs.Global.{Vec}
 use Rattle.faults.specs.declared.Fault.{Fault}
 use Rattle.faults.specs.Denials.{entry}
 use Rattle.isdu.specs.declared.Direction.TheVariants.{Write}
-use Rattle.isdu.specs.Replies.{refusal}
 use Rattle.channels.specs.declared.reading.Reading.{Reading}
 use Rattle.channels.specs.declared.reading.Reading.TheVariants.{Value, Below, Above, NoData}
 use Rattle.channels.specs.declared.row.Row.{Row}
@@ -14,10 +13,12 @@ use Rattle.sensor.specs.declared.sensor.Sensor.{Sensor}
 use Rattle.sensor.specs.declared.setup.Setup.{Setup}
 use Rattle.sensor.specs.Calls as rules
 use Rattle.sensor.specs.Lent.{lent_reading, lent_setup}
+use Rattle.sensor.specs.Requests.{negative}
 use Rattle.sensor.specs.Rules as rules_of
 use Rattle.days.specs.declared.bench.BenchSensor.{BenchSensor}
 use Rattle.days.specs.declared.call.Call.{Call}
-use Rattle.days.specs.declared.call.Call.TheVariants.{SetUp, Sample, Request, OpenKeypad, WriteKeypad, CloseKeypad, Restart}
+use Rattle.days.specs.declared.call.Call.TheVariants.{SetUp, Sample, Request, OpenKeypad, WriteKeypad, CloseKeypad}
+use Rattle.days.specs.declared.call.Call.TheVariants.{Restart}
 use Rattle.days.specs.declared.call.Channel.{Channel}
 use Rattle.days.specs.declared.call.Entry.{Entry}
 use Rattle.days.specs.declared.call.Line.{Line}
@@ -80,10 +81,9 @@ abbrev pub counted_told : Result ℕ Fault → Reply ℕ
 counted_told (Ok n) = Accepted n
 counted_told (Err f) = Denied f 0
 
--- how many octets a negative response has, of a write as of a read
+-- how many octets the negative response of an ErrorCode has, of a write as of a read
 abbrev pub refusal_length : Option ℕ → ℕ
-refusal_length None = 0
-refusal_length (Some code) = length (refusal Write code)
+refusal_length code = length (negative Write code)
 
 -- of a request: a denial that has an ErrorCode writes a negative response
 abbrev pub responded_told : Result ℕ Fault → Reply ℕ

@@ -2,12 +2,13 @@
 ghost use Rattle.days.specs.Kept.{due};
 ghost use Rattle.std.specs.Prelude.{◌≡◌};
 
-use sensor::keypad::Ticket;
-use sensor::sensor::Sensor;
+use keypad::Ticket;
+use sensor::Sensor;
 
-pub mod making;
+mod making;
 
-// A sensor with the ticket of its open keypad operation.
+/// A sensor with the ticket of its open keypad operation. It may be let go only by `end`, which closes an open
+/// operation.
 pub struct BenchSensor<K> {
     sensor: Sensor<K>,
     ticket: Option<Ticket>,

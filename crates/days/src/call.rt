@@ -3,58 +3,71 @@ ghost use Rattle.days.specs.Told.{call_of, called, octets_of, setup_of};
 ghost use Rattle.sensor.specs.Lent.{lent_reading, lent_setup};
 ghost use Rattle.std.specs.Prelude.{◌≡◌};
 
-use channels::range::Range;
-use channels::reading::Reading;
-use channels::row::Row;
+use channels::{Range, Reading, Row};
 use faults::Fault;
-use sensor::setup::Setup;
+use sensor::Setup;
 
-// A call. `T` has octets: those of a range's end, of a reading, of a frame, of a setpoint.
+/// A call. `T` has octets: those of a range's end, of a reading, of a frame, of a setpoint.
 #[derive(Drop)]
 pub enum Call<T> {
+    /// A set-up.
     SetUp(Setup<T>),
+    /// A sample.
     Sample(Reading<T>),
+    /// A request, by its frame: 93 3B A8 reads TeachResult.
     Request(T),
+    /// Opens a keypad operation.
     OpenKeypad,
-    // The serial number that the ticket bears, channel, setpoint, octets.
+    /// Writes a setpoint at the keypad: the serial number that the ticket bears, the channel counted from 1, the
+    /// setpoint (1 is SP1, 2 is SP2), and the octets of the value.
     WriteKeypad(u32, u8, u8, T),
-    // The serial number that the ticket bears.
+    /// Closes the keypad operation: the serial number that the ticket bears.
     CloseKeypad(u32),
+    /// A warm restart.
     Restart,
 }
 
-// A call of a run, and the length of the buffer that it is lent.
+/// A call of a run.
 #[derive(Drop)]
 pub struct Line {
+    /// The call, with octets of its own.
     pub call: Call<Vec<u8>>,
+    /// The length in octets of the buffer that it is lent.
     pub room: u16,
 }
 
-// What a call answers. `T` tells of the octets that it wrote to the front of its buffer: how many they are, or what they are.
+/// What a call answers. `T` tells of the octets that it wrote over the front of its buffer: how many they are, or what
+/// they are.
 #[derive(Drop)]
 pub enum Reply<T> {
+    /// The octets of process data or of a response; none of a call that writes none.
     Accepted(T),
-    // The serial number of the ticket that an opening gave.
+    /// An opening that was accepted: the serial number of its ticket.
     Ticket(u32),
-    // The octets are those of the negative response, if one was written.
+    /// The fault, and the octets of the negative response; none where no response was written.
     Denied(Fault, T),
 }
 
-// A channel's settings and state, and its signal.
+/// What a channel shows.
 #[derive(Clone, Copy)]
 pub struct Channel<K> {
+    /// Its settings and its state.
     pub row: Row<K>,
+    /// The state, inverted where logic is 1; false in mode 0.
     pub signal: bool,
 }
 
-// A call's reply, and every channel after it.
+/// A call's reply, and every channel after it.
 #[derive(Drop)]
 pub struct Entry<K> {
+    /// The reply, with the octets that were written.
     pub reply: Reply<Vec<u8>>,
+    /// The channels that are present, channel 1 first; none on a blank sensor.
     pub channels: Vec<Channel<K>>,
 }
 
-// A set-up with the octets of its range lent. No `From`: both types are of another crate.
+/// A set-up with the octets of its range lent.
+// No `From`: both types are of another crate.
 pub fn lend_setup(setup: &Setup<Vec<u8>>) -> Setup<&[u8]>
     ensures { lent_setup result ≡ setup_of setup.now }
 {
@@ -83,7 +96,7 @@ fn lend_reading(reading: &Reading<Vec<u8>>) -> Reading<&[u8]>
 }
 
 impl Line {
-    // The call with its octets lent.
+    /// The call with its octets lent.
     pub fn lend(&self) -> Call<&[u8]>
         ensures { called result self.now.room ≡ call_of self.now }
     {

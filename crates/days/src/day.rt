@@ -11,7 +11,7 @@ ghost use Rattle.std.specs.Prelude.{◌≡◌, map, replicate, vec_items, IfOk, 
 
 use super::bench::BenchSensor;
 use super::call::{Channel, Entry, Line, Reply};
-use kinds::kind::Kind;
+use kinds::Kind;
 use std::alloc::{AllocError, Global};
 
 // The channels of a sensor, each with its signal.
@@ -58,7 +58,8 @@ fn enter<K: Kind>(
     bench: &mut BenchSensor<K>,
     line: &Line,
 ) -> Result<Entry<K>, AllocError>
-    ensures entry { IfOk result (λ entry. entry_told entry ≡ entry_of K.meaning (sensor_of bench.old) (call_of line.now)) }
+    ensures entry { IfOk result
+        (λ entry. entry_told entry ≡ entry_of K.meaning (sensor_of bench.old) (call_of line.now)) }
     ensures sensor { OnOk result (sensor_of bench.new ≡ next K.meaning (sensor_of bench.old) (call_of line.now)) }
 {
     let mut out = buffer(heap, line.room)?;
@@ -75,7 +76,9 @@ fn enter_all<K: Kind>(
     bench: &mut BenchSensor<K>,
     lines: &[Line],
 ) -> Result<Vec<Entry<K>>, AllocError>
-    ensures { IfOk result (λ log. map entry_told (vec_items log) ≡ entries K.meaning (sensor_of bench.old) (map call_of lines.now)) }
+    ensures { IfOk result
+        (λ log. map entry_told (vec_items log)
+        ≡ entries K.meaning (sensor_of bench.old) (map call_of lines.now)) }
 {
     let mut log = Vec::new(heap);
     for line in lines {
@@ -85,17 +88,20 @@ fn enter_all<K: Kind>(
     Ok(log)
 }
 
-// Makes calls on a sensor, set-ups among them, and tells each reply with every channel after it. An operation that is open at
-// the end is closed with its ticket.
-//
-// The first clause equates what is told with the rules. The others are the laws of every list of calls that a sensor takes since it was
-// blank, whatever calls came before these: they speak of the rules alone, so they hold whether there is memory for a log or not.
+/// Makes calls on a sensor one after the other, set-ups among them, and tells each reply with every channel after it.
+/// Each call is lent a buffer of its own, of octets 0. An operation that is open at the end is closed with its ticket.
+/// An error is want of memory for what is told; the calls after it are not made.
+///
+/// The first clause equates what is told with the rules. The others are the laws of every list of calls that a sensor
+/// takes since it was blank, whatever calls came before these: they speak of the rules alone, so they hold whether
+/// there is memory for a log or not.
 pub fn run<K: Kind>(
     heap: Global,
     mut bench: BenchSensor<K>,
     lines: &[Line],
 ) -> Result<Vec<Entry<K>>, AllocError>
-    ensures answers_by_the_tables { IfOk result (λ log. map entry_told (vec_items log) ≡ entries K.meaning (sensor_of bench) (map call_of lines.now)) }
+    ensures answers_by_the_tables { IfOk result
+        (λ log. map entry_told (vec_items log) ≡ entries K.meaning (sensor_of bench) (map call_of lines.now)) }
     ensures foreign_calls_leave_no_trace { AfterAny (ForeignCallsLeaveNoTrace K.meaning) (map call_of lines.now) }
     ensures stores_within_captured { AfterAny (StoresWithinCaptured K.meaning) (map call_of lines.now) }
     ensures taught_from_captured { AfterAny (TaughtFromCaptured K.meaning) (map call_of lines.now) }

@@ -1,7 +1,13 @@
--- The denials: number, layer and, where a negative response tells of one, its ErrorCode.
-use Rattle.std.specs.Prelude.{ℕ, List, Some, None, Ok, Err, Option, Result, codes}
+-- The denials: number, layer and, where a negative response tells of one, its ErrorCode; and how a layer, a denial, a
+-- place and a fault are printed.
+use Rattle.std.specs.Prelude.{ℕ, cond, ◌&&◌, List, [], ◌++◌, Some, None, Ok, Err, Option, Result, ◌==◌, codes, decimal}
 use Rattle.faults.specs.declared.Denial.{Denial}
-use Rattle.faults.specs.declared.Denial.TheVariants.{SetupUnderKeypad, ChannelCount, Range, CaptureLength, Blank, BufferTooShort, ResponseBuffer, FrameLength, CheckOctet, Service, NoIndex, NoSubindex, WrongDirection, DataTooLong, DataTooShort, WriteUnderKeypad, NoValue, AboveRange, BelowRange, UnknownCommand, NotInState, AlreadyOpen, TeachRunning, OtherSerial, NotOpen, NoSetpoint, NoFrame}
+use Rattle.faults.specs.declared.Denial.TheVariants.{SetupUnderKeypad, ChannelCount, Range, CaptureLength, Blank}
+use Rattle.faults.specs.declared.Denial.TheVariants.{BufferTooShort, ResponseBuffer, FrameLength, CheckOctet, Service}
+use Rattle.faults.specs.declared.Denial.TheVariants.{NoIndex, NoSubindex, WrongDirection, DataTooLong, DataTooShort}
+use Rattle.faults.specs.declared.Denial.TheVariants.{WriteUnderKeypad, NoValue, AboveRange, BelowRange}
+use Rattle.faults.specs.declared.Denial.TheVariants.{UnknownCommand, NotInState, AlreadyOpen, TeachRunning}
+use Rattle.faults.specs.declared.Denial.TheVariants.{OtherSerial, NotOpen, NoSetpoint, NoFrame}
 use Rattle.faults.specs.declared.Layer.{Layer}
 use Rattle.faults.specs.declared.Layer.TheVariants.{Device, Frame, Access, Value, Teach, Keypad}
 use Rattle.faults.specs.declared.Fault.{Fault}
@@ -50,17 +56,47 @@ entry NoSetpoint = silent 26 Keypad
 entry NoFrame = silent 27 Frame
 
 -- the word that a layer is printed as
-abbrev pub layer_word : Layer → List ℕ
-layer_word Device = codes "device"
-layer_word Frame = codes "frame"
-layer_word Access = codes "access"
-layer_word Value = codes "value"
-layer_word Teach = codes "teach"
-layer_word Keypad = codes "keypad"
+abbrev pub layer_text : Layer → List ℕ
+layer_text Device = codes "device"
+layer_text Frame = codes "frame"
+layer_text Access = codes "access"
+layer_text Value = codes "value"
+layer_text Teach = codes "teach"
+layer_text Keypad = codes "keypad"
+
+-- a denial in words
+abbrev pub denial_text : Denial → List ℕ
+denial_text SetupUnderKeypad = codes "set-up while a keypad operation is open"
+denial_text ChannelCount = codes "channel count not 1 to 8"
+denial_text Range = codes "range ends out of order or past the limits"
+denial_text CaptureLength = codes "capture length not 1 to 64"
+denial_text Blank = codes "sensor not set up"
+denial_text BufferTooShort = codes "buffer too short"
+denial_text ResponseBuffer = codes "response buffer under 16 octets"
+denial_text FrameLength = codes "wrong frame length"
+denial_text CheckOctet = codes "wrong check octet"
+denial_text Service = codes "no such service, or fields that do not fit it"
+denial_text NoIndex = codes "no such index"
+denial_text NoSubindex = codes "no such subindex"
+denial_text WrongDirection = codes "object not read or not written"
+denial_text DataTooLong = codes "data too long"
+denial_text DataTooShort = codes "data too short"
+denial_text WriteUnderKeypad = codes "write while a keypad operation is open"
+denial_text NoValue = codes "no value of the kind, or a code out of its table"
+denial_text AboveRange = codes "setpoint above the range"
+denial_text BelowRange = codes "setpoint below the range"
+denial_text UnknownCommand = codes "unknown command"
+denial_text NotInState = codes "command not in the teach state's row"
+denial_text AlreadyOpen = codes "keypad operation already open"
+denial_text TeachRunning = codes "teach not idle"
+denial_text OtherSerial = codes "ticket of another serial number"
+denial_text NotOpen = codes "no keypad operation open"
+denial_text NoSetpoint = codes "no such channel or setpoint"
+denial_text NoFrame = codes "no frame holds it"
 
 -- the fault of a denial that concerns the object at a place
 abbrev pub fault_at : Denial → Place → Fault
-fault_at d p = record { denial = d; index = p.index; subindex = p.subindex }
+fault_at d p = record { denial = d; place = p }
 
 -- where no object is concerned, index and subindex are 0
 abbrev pub no_object : Place
@@ -69,6 +105,18 @@ no_object = record { index = 0; subindex = 0 }
 -- the fault of a denial that concerns no object
 abbrev pub fault : Denial → Fault
 fault d = fault_at d no_object
+
+-- where a fault is, unless it concerns no object
+abbrev pub place_text : Place → List ℕ
+place_text p =
+    cond (p.index == 0 && p.subindex == 0) []
+    (codes " at index " ++ decimal p.index ++ codes ", subindex " ++ decimal p.subindex)
+
+-- a fault on one line: number, layer, place, and the denial in words
+abbrev pub fault_text : Fault → List ℕ
+fault_text f =
+    codes "denial " ++ decimal (entry f.denial).number ++ codes " (" ++ layer_text (entry f.denial).layer ++ codes ")"
+    ++ place_text f.place ++ codes ": " ++ denial_text f.denial
 
 -- the first denial, or what follows
 abbrev pub then : {A B : Type 0} → Result A Fault → (A → Result B Fault) → Result B Fault

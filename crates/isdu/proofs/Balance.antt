@@ -7,9 +7,9 @@ use Rattle.std.proofs.lemmas.Bool.{eq-eqb, eqb-true}
 use Rattle.std.proofs.lemmas.List.{length_push, length-take-le, take_all, take_at, take_more}
 use Rattle.std.proofs.lemmas.List.Sums.{fold_push}
 use Rattle.std.specs.List.{fold}
-use Rattle.isdu.specs.CheckOctet.{exclusive_or, checked, before_check}
+use Rattle.isdu.specs.CheckOctet.{exclusive_or, with_check, before_check}
 
-pub checked_balanced : (xs : List ℕ) → exclusive_or (checked xs) ≡ 0
+pub checked_balanced : (xs : List ℕ) → exclusive_or (with_check xs) ≡ 0
 checked_balanced xs = fold_push bit_xor 0 xs (exclusive_or xs) ∙ xor_self (exclusive_or xs)
 
 pub before_check_push : (xs : List ℕ) (c : ℕ) → before_check (xs ++ c ∷ []) ≡ xs

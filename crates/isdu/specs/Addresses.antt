@@ -1,11 +1,8 @@
 -- Index and subindex as octets.
-use Rattle.std.specs.Prelude.{ℕ, ◌+◌, ◌*◌, ◌/◌, ◌%◌, cond, List, [], ◌∷◌, ◌++◌, Some, None, Option, ◌==◌, nat_lt}
+use Rattle.std.specs.Prelude.{ℕ, ◌%◌, cond, List, [], ◌∷◌, ◌++◌, Some, None, Option, ◌==◌, nat_lt}
+use Rattle.octets.specs.Numbers.{two_number, two_octets}
 use Rattle.isdu.specs.declared.services.Addressing.{Addressing}
 use Rattle.isdu.specs.declared.services.Addressing.TheVariants.{Index8, Index8Sub, Index16Sub}
-
--- a 16-bit number, its high octet first
-abbrev pub two_octets : ℕ → List ℕ
-two_octets number = (number / 256 % 256) ∷ (number % 256) ∷ []
 
 -- the octets that give index and subindex; the short addressing leaves a subindex of 0 out
 abbrev pub address_octets : Addressing → ℕ → ℕ → List ℕ
@@ -23,7 +20,7 @@ address_of Index8Sub (index ∷ subindex ∷ rest) = Some (index, subindex, rest
 address_of Index16Sub [] = None
 address_of Index16Sub (high ∷ []) = None
 address_of Index16Sub (high ∷ low ∷ []) = None
-address_of Index16Sub (high ∷ low ∷ subindex ∷ rest) = Some (high * 256 + low, subindex, rest)
+address_of Index16Sub (high ∷ low ∷ subindex ∷ rest) = Some (two_number high low, subindex, rest)
 
 -- the addressing that takes the fewest octets
 abbrev pub shortest_addressing : ℕ → ℕ → Addressing

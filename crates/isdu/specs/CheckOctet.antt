@@ -6,8 +6,8 @@ abbrev pub exclusive_or : List ℕ → ℕ
 exclusive_or octets = fold bit_xor 0 octets
 
 -- octets with their check octet behind them
-abbrev pub checked : List ℕ → List ℕ
-checked octets = octets ++ (exclusive_or octets ∷ [])
+abbrev pub with_check : List ℕ → List ℕ
+with_check octets = octets ++ (exclusive_or octets ∷ [])
 
 -- the octets before the last, which is the check octet
 abbrev pub before_check : List ℕ → List ℕ

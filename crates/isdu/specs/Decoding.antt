@@ -1,5 +1,6 @@
 -- What any octets ask for, or why they are denied.
-use Rattle.std.specs.Prelude.{ℕ, ◌/◌, ◌%◌, Bool, cond, not, ◌&&◌, List, [], ◌∷◌, length, drop, Some, None, Ok, Err, Option, Result, ◌==◌, nat_eq, nat_le}
+use Rattle.std.specs.Prelude.{ℕ, ◌/◌, ◌%◌, Bool, cond, not, ◌&&◌, List, [], ◌∷◌, length, drop, Some, None, Ok, Err}
+use Rattle.std.specs.Prelude.{Option, Result, ◌==◌, nat_eq, nat_le}
 use Rattle.std.specs.Option.{option_eq}
 use Rattle.faults.specs.declared.Fault.{Fault}
 use Rattle.faults.specs.declared.Denial.TheVariants as Denial
@@ -28,9 +29,13 @@ abbrev pub second_length : List ℕ → Option ℕ
 second_length [] = None
 second_length (octet ∷ rest) = cond (nat_le least_in_octet octet && nat_le octet most_in_octet) (Some octet) None
 
+-- the low digit of a first octet that sends on to a second length octet
+abbrev pub second_follows : ℕ
+second_follows = 1
+
 -- whether the low digit of the first octet sends on to a second length octet
 abbrev pub has_second : ℕ → Bool
-has_second first = first % 16 == 1
+has_second first = first % 16 == second_follows
 
 -- the length that a frame states: its low digit, or the second octet where that digit is 1
 abbrev pub stated_length : ℕ → List ℕ → Option ℕ

@@ -16,7 +16,8 @@ read index subindex = record { direction = Read; index = index; subindex = subin
 
 -- the octets decode as the request, and it composes as the octets where they just have room
 abbrev pub Stands : Asked → List ℕ → Type 0
-Stands asked octets = (decoded octets ≡ Ok asked) × (frame_of asked ≡ octets) × (composed asked (length octets) ≡ Ok (length octets))
+Stands asked octets =
+    (decoded octets ≡ Ok asked) × (frame_of asked ≡ octets) × (composed asked (length octets) ≡ Ok (length octets))
 
 pub record Examples : Type 0 where
   -- setpoint SP1 of channel 1 becomes 1000
@@ -33,11 +34,15 @@ pub record Examples : Type 0 where
       (0x1F ∷ 0x18 ∷ 0x62 ∷ 0x6F ∷ 0x74 ∷ 0x74 ∷ 0x6C ∷ 0x69 ∷ 0x6E ∷ 0x67 ∷ 0x20 ∷ 0x6F ∷ 0x6E ∷ 0x65 ∷ 0x42 ∷ [])
   -- one data octet more takes the second length octet too
   pub seventeen :
-      Stands (write 24 0 (0x62 ∷ 0x6F ∷ 0x74 ∷ 0x74 ∷ 0x6C ∷ 0x69 ∷ 0x6E ∷ 0x67 ∷ 0x20 ∷ 0x66 ∷ 0x6F ∷ 0x75 ∷ 0x72 ∷ []))
-      (0x11 ∷ 0x11 ∷ 0x18 ∷ 0x62 ∷ 0x6F ∷ 0x74 ∷ 0x74 ∷ 0x6C ∷ 0x69 ∷ 0x6E ∷ 0x67 ∷ 0x20 ∷ 0x66 ∷ 0x6F ∷ 0x75 ∷ 0x72 ∷ 0x37 ∷ [])
+      Stands
+      (write 24 0 (0x62 ∷ 0x6F ∷ 0x74 ∷ 0x74 ∷ 0x6C ∷ 0x69 ∷ 0x6E ∷ 0x67 ∷ 0x20 ∷ 0x66 ∷ 0x6F ∷ 0x75 ∷ 0x72 ∷ []))
+      (0x11 ∷ 0x11 ∷ 0x18
+      ∷ 0x62 ∷ 0x6F ∷ 0x74 ∷ 0x74 ∷ 0x6C ∷ 0x69 ∷ 0x6E ∷ 0x67 ∷ 0x20 ∷ 0x66 ∷ 0x6F ∷ 0x75 ∷ 0x72 ∷ 0x37 ∷ [])
   -- no frame has 16 octets
   pub sixteen :
-      decoded (0x11 ∷ 0x10 ∷ 0x18 ∷ 0x62 ∷ 0x6F ∷ 0x74 ∷ 0x74 ∷ 0x6C ∷ 0x69 ∷ 0x6E ∷ 0x67 ∷ 0x20 ∷ 0x6F ∷ 0x6E ∷ 0x65 ∷ 0x5C ∷ [])
+      decoded
+      (0x11 ∷ 0x10 ∷ 0x18
+      ∷ 0x62 ∷ 0x6F ∷ 0x74 ∷ 0x74 ∷ 0x6C ∷ 0x69 ∷ 0x6E ∷ 0x67 ∷ 0x20 ∷ 0x6F ∷ 0x6E ∷ 0x65 ∷ 0x5C ∷ [])
       ≡ Err (fault FrameLength)
   -- a form that is not the shortest is read all the same
   pub reads_long_form : decoded (0xA4 ∷ 0x3B ∷ 0x00 ∷ 0x9F ∷ []) ≡ Ok (read 59 0)
@@ -48,5 +53,13 @@ pub record Examples : Type 0 where
   pub no_room : composed (read 59 0) 2 ≡ Err (fault BufferTooShort)
   pub grants_write : write_reply ≡ 0x52 ∷ 0x52 ∷ []
   pub grants_read : read_reply (0x05 ∷ []) ≡ 0xD3 ∷ 0x05 ∷ 0xD6 ∷ []
+  pub grants_empty_read : read_reply [] ≡ 0xD2 ∷ 0xD2 ∷ []
+  -- the longest reply with its length in the first octet, and one with a data octet more
+  pub grants_read_of_13 :
+      read_reply (1 ∷ 2 ∷ 3 ∷ 4 ∷ 5 ∷ 6 ∷ 7 ∷ 8 ∷ 9 ∷ 10 ∷ 11 ∷ 12 ∷ 13 ∷ [])
+      ≡ 0xDF ∷ 1 ∷ 2 ∷ 3 ∷ 4 ∷ 5 ∷ 6 ∷ 7 ∷ 8 ∷ 9 ∷ 10 ∷ 11 ∷ 12 ∷ 13 ∷ 0xDE ∷ []
+  pub grants_read_of_14 :
+      read_reply (1 ∷ 2 ∷ 3 ∷ 4 ∷ 5 ∷ 6 ∷ 7 ∷ 8 ∷ 9 ∷ 10 ∷ 11 ∷ 12 ∷ 13 ∷ 14 ∷ [])
+      ≡ 0xD1 ∷ 0x11 ∷ 1 ∷ 2 ∷ 3 ∷ 4 ∷ 5 ∷ 6 ∷ 7 ∷ 8 ∷ 9 ∷ 10 ∷ 11 ∷ 12 ∷ 13 ∷ 14 ∷ 0xCF ∷ []
   pub refuses_write : refusal Write 0x8031 ≡ 0x44 ∷ 0x80 ∷ 0x31 ∷ 0xF5 ∷ []
   pub refuses_read : refusal Read 0x8011 ≡ 0xC4 ∷ 0x80 ∷ 0x11 ∷ 0x55 ∷ []

@@ -1,4 +1,5 @@
--- An ISDU request as it is laid out: heading, address, data, check octet. It tells what a frame is, not how one is read or written.
+-- An ISDU request as it is laid out: heading, address, data, check octet. It tells what a frame is, not how one is read
+-- or written.
 use Rattle.std.specs.Prelude.{◌≡◌, ℕ, ◌<◌, ◌≤◌, Bool, true, false, List, [], ◌∷◌, ◌++◌, length, Ok, Err, Result}
 use Rattle.faults.specs.declared.Fault.{Fault}
 use Rattle.isdu.specs.declared.Direction.{Direction}
@@ -9,12 +10,13 @@ use Rattle.isdu.specs.Requests.{Asked}
 use Rattle.isdu.specs.CheckOctet.{exclusive_or}
 use Rattle.isdu.specs.Services.{service_digit}
 use Rattle.isdu.specs.Addresses.{address_octets}
+use Rattle.isdu.specs.Decoding.{most_in_digit, least_in_octet, most_in_octet}
 use Rattle.isdu.specs.Composing.{heading}
 
 -- a length of 2 to 15 stands in the first octet, one of 17 to 238 in the second; none is 16
 abbrev pub Lengths : Bool → ℕ → Type 0
-Lengths false total = (2 ≤ total) × (total ≤ 15)
-Lengths true total = (17 ≤ total) × (total ≤ 238)
+Lengths false total = (2 ≤ total) × (total ≤ most_in_digit)
+Lengths true total = (least_in_octet ≤ total) × (total ≤ most_in_octet)
 
 -- the index and subindex that an addressing can give
 abbrev pub Addresses : Addressing → ℕ → ℕ → Type 0
@@ -34,7 +36,10 @@ pub record Laid (frame : List ℕ) (asked : Asked) : Type 0 where
   pub second : Bool
   -- the check octet
   pub check : ℕ
-  pub whole : frame ≡ heading second (service_digit asked.direction addressing) (length frame) ++ (address_octets addressing asked.index asked.subindex ++ (asked.octets ++ (check ∷ [])))
+  pub whole :
+      frame
+      ≡ heading second (service_digit asked.direction addressing) (length frame)
+      ++ (address_octets addressing asked.index asked.subindex ++ (asked.octets ++ (check ∷ [])))
   pub lengths : Lengths second (length frame)
   pub addresses : Addresses addressing asked.index asked.subindex
   pub carries : Carries asked.direction second asked.octets

@@ -23,5 +23,6 @@ Shortest asked (Err denied) = Unit {0}
 -- what was decoded from n octets composes again, in n octets or fewer, wherever there is room for them
 abbrev pub Recomposes : Result Asked Fault → ℕ → Type 0
 Recomposes (Ok asked) n =
-    (length (frame_of asked) ≤ n) × ((room : ℕ) → length (frame_of asked) ≤ room → composed asked room ≡ Ok (length (frame_of asked)))
+    (length (frame_of asked) ≤ n)
+    × ((room : ℕ) → length (frame_of asked) ≤ room → composed asked room ≡ Ok (length (frame_of asked)))
 Recomposes (Err denied) n = Unit {0}

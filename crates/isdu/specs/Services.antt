@@ -21,9 +21,9 @@ service direction addressing = record { direction = direction; addressing = addr
 -- the service of a digit; every other digit is none of a request
 abbrev pub service_of : ℕ → Option Service
 service_of digit =
-    cond (digit == 0x1) (Some (service Write Index8))
-    (cond (digit == 0x2) (Some (service Write Index8Sub))
-    (cond (digit == 0x3) (Some (service Write Index16Sub))
-    (cond (digit == 0x9) (Some (service Read Index8))
-    (cond (digit == 0xA) (Some (service Read Index8Sub))
-    (cond (digit == 0xB) (Some (service Read Index16Sub)) None)))))
+    cond (digit == service_digit Write Index8) (Some (service Write Index8))
+    (cond (digit == service_digit Write Index8Sub) (Some (service Write Index8Sub))
+    (cond (digit == service_digit Write Index16Sub) (Some (service Write Index16Sub))
+    (cond (digit == service_digit Read Index8) (Some (service Read Index8))
+    (cond (digit == service_digit Read Index8Sub) (Some (service Read Index8Sub))
+    (cond (digit == service_digit Read Index16Sub) (Some (service Read Index16Sub)) None)))))

@@ -6,7 +6,12 @@ use Rattle.isdu.specs.Requests.{Asked}
 
 -- what a request of the code asks for
 abbrev pub asks : Request → Asked
-asks request = record { direction = request.direction; index = request.index; subindex = request.subindex; octets = request.«data».now }
+asks request = record {
+  direction = request.direction;
+  index = request.index;
+  subindex = request.subindex;
+  octets = request.«data».now;
+}
 
 -- what a decoding of the code answers
 abbrev pub told : Result Request Fault → Result Asked Fault

@@ -16,8 +16,8 @@ pub(crate) fn exclusive_or(octets: &[u8]) -> u8
     exclusive_or_from(0, octets)
 }
 
-// Whether the last octet of a frame is its check octet. It is compared with the exclusive-or of those before it: to compare
-// that of all octets with 0 takes longer.
+// Whether the last octet of a frame is its check octet. It is compared with the exclusive-or of those before it: to
+// compare that of all octets with 0 takes longer.
 pub(crate) fn has_check(first: u8, inner: &[u8], last: u8) -> bool
     ensures { result ≡ (exclusive_or (first ∷ inner.now ++ last ∷ []) == 0) }
 {

@@ -1,4 +1,6 @@
-// ISDU requests and replies over octets that the caller lends.
+//! ISDU frames over octets that the caller lends: a request is read from its frame and written as one, and the replies
+//! to it are written (docs/RULES.md, "8. ISDU frames"). A denied call writes nothing. Denials are told by their numbers
+//! in docs/RULES.md, "12. Denials".
 #![tactic(auto)]
 
 ghost use Rattle.isdu.specs.Examples.{Examples};
@@ -6,6 +8,7 @@ ghost use Rattle.isdu.specs.Examples.{Examples};
 mod checks;
 mod composing;
 mod decoding;
+mod lengths;
 mod replies;
 mod services;
 mod writing;
@@ -14,22 +17,29 @@ pub use composing::compose;
 pub use decoding::decode;
 pub use replies::{confirm_read, confirm_write, refuse};
 
+/// Whether a request reads or writes.
 #[derive(Clone, Copy, PartialEq, Eq, Debug)]
 pub enum Direction {
+    /// Services 9, A and B of a frame.
     Read,
+    /// Services 1, 2 and 3.
     Write,
 }
 
-// A read or a write of an object. Subindex 0 is the whole object; a read has no data.
+/// A read or a write of an object. The frame 26 3C 01 03 E8 F0 is a write of index 60, subindex 1, with the data 03 E8.
 #[derive(Clone, Copy, PartialEq, Eq, Debug)]
 pub struct Request<'a> {
+    /// Whether it reads or writes.
     pub direction: Direction,
+    /// The object.
     pub index: u16,
+    /// The part of the object; 0 is the whole.
     pub subindex: u8,
+    /// The octets to write: one or more in the frame of a write, none in that of a read.
     pub data: &'a [u8],
 }
 
-// Worked frames of requests and replies, octet by octet.
+/// The worked frames of docs/RULES.md, "8. ISDU frames", and some more. It does nothing: its clause is what is proved.
 pub fn worked_frames()
     ensures { Examples }
 {}
@@ -76,5 +86,54 @@ mod tests {
         assert_eq!(rt; refuse(Direction::Write, 0x8031, &mut out)?, 4);
         assert_eq!(rt; out, [0x44, 0x80, 0x31, 0xF5]);
         Ok(())
+    }
+
+    // The octets 1, 2, 3 and so on stand behind the first octet.
+    fn counted() -> [u8; 18] {
+        [
+            0xAA, 1, 2, 3, 4, 5, 6, 7, 8, 9, 10, 11, 12, 13, 14, 15, 0xBB, 0xBB,
+        ]
+    }
+
+    #[test]
+    fn reads_up_to_the_second_length_octet(rt: HostRuntime) -> Result<(), Fail> {
+        let mut out = [0xAA; 4];
+        assert_eq!(rt; confirm_read(0, &mut out)?, 2);
+        assert_eq!(rt; out, [0xD2, 0xD2, 0xAA, 0xAA]);
+        let mut out = counted();
+        assert_eq!(rt; confirm_read(13, &mut out)?, 15);
+        assert_eq!(rt;
+            out,
+            [
+                0xDF, 1, 2, 3, 4, 5, 6, 7, 8, 9, 10, 11, 12, 13, 0xDE, 15, 0xBB, 0xBB
+            ]
+        );
+        let mut out = counted();
+        assert_eq!(rt; confirm_read(14, &mut out)?, 17);
+        assert_eq!(rt;
+            out,
+            [
+                0xD1, 0x11, 1, 2, 3, 4, 5, 6, 7, 8, 9, 10, 11, 12, 13, 14, 0xCF, 0xBB
+            ]
+        );
+        Ok(())
+    }
+
+    #[test]
+    fn denied_reads(rt: HostRuntime) {
+        let mut out = counted();
+        assert_eq!(rt;
+            confirm_read(16, &mut out),
+            Err(Fault::of(Denial::BufferTooShort))
+        );
+        assert_eq!(rt;
+            confirm_read(235, &mut out),
+            Err(Fault::of(Denial::BufferTooShort))
+        );
+        assert_eq!(rt;
+            confirm_read(236, &mut out),
+            Err(Fault::of(Denial::NoFrame))
+        );
+        assert_eq!(rt; out, counted());
     }
 }

@@ -3,7 +3,7 @@ use Rattle.std.specs.Prelude.{◌≡◌, ℕ, true, List, [], ◌∷◌, pos, ne
 use Rattle.std.specs.Float.{binary32}
 use Rattle.std.specs.Float.Ieee.{add, sub, of_int}
 use Rattle.numbers.specs.Floats.{rank, proper, plain, step, distance, middle}
-use Rattle.numbers.specs.Octets.{four}
+use Rattle.octets.specs.Numbers.{four}
 use Rattle.numbers.specs.Options.{when_some, when_true}
 use Rattle.numbers.proofs.Moves.{raised_proper, lowered_proper}
 use Rattle.numbers.proofs.Middle.{middle_proper}

@@ -3,7 +3,7 @@ use Rattle.std.specs.Prelude.{◌^◌, [], ◌∷◌, ℤ, pos, neg_ℤ}
 use Rattle.std.proofs.Common.{lit<, lt→ltb, ltb→lt}
 use Rattle.std.specs.Int.Signed.{mag}
 use Rattle.std.specs.Int.{w32}
-use Rattle.numbers.specs.Octets.{four}
+use Rattle.octets.specs.Numbers.{four}
 use Rattle.kinds.specs.Integers.{Make, Within}
 use Rattle.kinds.specs.declared.integer_t32.IntegerT32.{IntegerT32}
 

@@ -5,7 +5,7 @@ use Rattle.std.specs.Int.Signed.{mag, shr_z}
 use Rattle.std.proofs.Common.{to_z, of_z}
 use Rattle.std.specs.Int.{saturate_to_bits, Width}
 use mir.Val.{hbits}
-use Rattle.numbers.specs.Octets.{Coding}
+use Rattle.octets.specs.Numbers.{Coding}
 use Rattle.numbers.specs.Options.{when_some}
 use Rattle.numbers.proofs.Wholes.{saturated_within, half_within, read_within}
 use Rattle.kinds.specs.Meaning.{Meaning}

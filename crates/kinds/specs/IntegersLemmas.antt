@@ -1,5 +1,6 @@
 -- Every make of whole numbers shows the laws, whatever its word.
-use Rattle.std.specs.Prelude.{◌≡◌, ℕ, ◌^◌, Bool, true, false, cond, ◌⊎◌, length, ℤ, pos, ◌+ℤ◌, ◌-ℤ◌, neg_ℤ, ◌≤ℤ◌, Some, Option, int_le, refl}
+use Rattle.std.specs.Prelude.{◌≡◌, ℕ, ◌^◌, Bool, true, false, cond, ◌⊎◌, length, Some, Option, refl}
+use Rattle.std.specs.Prelude.{ℤ, pos, ◌+ℤ◌, ◌-ℤ◌, neg_ℤ, ◌≤ℤ◌, int_le}
 use Rattle.std.proofs.Common.{sym, ap, ◌∙◌, subst, arith, of_z}
 use Rattle.std.proofs.Math.IntN.{+ℤ_idr}
 use Rattle.std.specs.Int.Signed.{shr_z, ≤ℤ_refl}
@@ -7,7 +8,7 @@ use mir.Val.{hbits, bits}
 use Rattle.std.proofs.lemmas.Int.{ints, to_z-of_z}
 use Rattle.std.specs.Int.{saturate_to_bits}
 use Rattle.numbers.specs.Options.{when_some}
-use Rattle.numbers.proofs.Octets.{Sound}
+use Rattle.octets.proofs.Numbers.{Sound}
 use Rattle.numbers.proofs.Options.{some_of}
 use Rattle.numbers.proofs.Signs.{at_most, at_least, add_order}
 use Rattle.numbers.proofs.Wholes.{saturated_within, saturated_same, saturated_order, half_low, half_high, pattern_below}
@@ -42,16 +43,24 @@ module _ {V : Type 0} (make : Make V) (fit : Fit V make) where
   stopped_is z = fit.number_of (saturate_to_bits k z) (saturated_within k z)
 
   stopped_own : (v : V) (z : ℤ) → z ≡ number v → stopped z ≡ v
-  stopped_own v z e = fit.same (stopped z) v (stopped_is z ∙ ap (saturate_to_bits k) e ∙ saturated_same k (number v) (make.within v))
+  stopped_own v z e =
+      fit.same (stopped z) v
+      (stopped_is z ∙ ap (saturate_to_bits k) e ∙ saturated_same k (number v) (make.within v))
 
   stopped_order : (y z : ℤ) → y ≤ℤ z → number (stopped y) ≤ℤ number (stopped z)
-  stopped_order y z h = subst (λ (x : ℤ). x ≤ℤ number (stopped z)) (sym (stopped_is y)) (subst (λ (x : ℤ). saturate_to_bits k y ≤ℤ x) (sym (stopped_is z)) (saturated_order k y z h))
+  stopped_order y z h =
+      subst (λ (x : ℤ). x ≤ℤ number (stopped z)) (sym (stopped_is y))
+      (subst (λ (x : ℤ). saturate_to_bits k y ≤ℤ x) (sym (stopped_is z)) (saturated_order k y z h))
 
   up : (v : V) (n : ℕ) → number v ≤ℤ number (stopped (number v +ℤ pos n))
-  up v n = subst (λ (w : V). number w ≤ℤ number (stopped (number v +ℤ pos n))) (stopped_own v (number v) refl) (stopped_order (number v) (number v +ℤ pos n) (omega (arith, ints)))
+  up v n =
+      subst (λ (w : V). number w ≤ℤ number (stopped (number v +ℤ pos n))) (stopped_own v (number v) refl)
+      (stopped_order (number v) (number v +ℤ pos n) (omega (arith, ints)))
 
   down : (v : V) (n : ℕ) → number (stopped (number v -ℤ pos n)) ≤ℤ number v
-  down v n = subst (λ (w : V). number (stopped (number v -ℤ pos n)) ≤ℤ number w) (stopped_own v (number v) refl) (stopped_order (number v -ℤ pos n) (number v) (omega (arith, ints)))
+  down v n =
+      subst (λ (w : V). number (stopped (number v -ℤ pos n)) ≤ℤ number w) (stopped_own v (number v) refl)
+      (stopped_order (number v -ℤ pos n) (number v) (omega (arith, ints)))
 
   low : (v w : V) (t : Bool) → int_le (number v) (number w) ≡ t → number (cond t v w) ≤ℤ shr_z (number v +ℤ number w) 2
   low v w true e = half_low (number v) (number w) (number v) (≤ℤ_refl (number v)) (at_most (number v) (number w) e)
@@ -63,7 +72,8 @@ module _ {V : Type 0} (make : Make V) (fit : Fit V make) where
 
   back : (v : V) → m.read (m.octets v) ≡ Some v
   back v =
-      ap (λ (o : Option ℕ). when_some o (of_pattern make)) (fit.coded.back (of_z make.word (number v)) (pattern_below make.word (number v) (make.within v)))
+      ap (λ (o : Option ℕ). when_some o (of_pattern make))
+      (fit.coded.back (of_z make.word (number v)) (pattern_below make.word (number v) (make.within v)))
       ∙ ap Some (fit.same _ v (fit.number_of _ _ ∙ to_z-of_z make.word (number v) (record { sfits = make.within v })))
 
   pub lawful : Lawful V m
@@ -80,8 +90,14 @@ module _ {V : Type 0} (make : Make V) (fit : Fit V make) where
     lowered_down = down;
     raised_none = λ v. stopped_own v (number v +ℤ pos 0) (+ℤ_idr (number v));
     lowered_none = λ v. stopped_own v (number v -ℤ pos 0) (+ℤ_idr (number v));
-    raised_order = λ v w n h. stopped_order (number v +ℤ pos n) (number w +ℤ pos n) (add_order (number v) (number w) (pos n) h);
-    lowered_order = λ v w n h. stopped_order (number v -ℤ pos n) (number w -ℤ pos n) (add_order (number v) (number w) (neg_ℤ (pos n)) h);
-    middle_low = λ v w. subst (λ (x : ℤ). number (lesser m v w) ≤ℤ x) (sym (fit.number_of _ _)) (low v w (int_le (number v) (number w)) refl);
-    middle_high = λ v w. subst (λ (x : ℤ). x ≤ℤ number (greater m v w)) (sym (fit.number_of _ _)) (high v w (int_le (number v) (number w)) refl);
+    raised_order = λ v w n h.
+        stopped_order (number v +ℤ pos n) (number w +ℤ pos n) (add_order (number v) (number w) (pos n) h);
+    lowered_order = λ v w n h.
+        stopped_order (number v -ℤ pos n) (number w -ℤ pos n) (add_order (number v) (number w) (neg_ℤ (pos n)) h);
+    middle_low = λ v w.
+        subst (λ (x : ℤ). number (lesser m v w) ≤ℤ x) (sym (fit.number_of _ _))
+        (low v w (int_le (number v) (number w)) refl);
+    middle_high = λ v w.
+        subst (λ (x : ℤ). x ≤ℤ number (greater m v w)) (sym (fit.number_of _ _))
+        (high v w (int_le (number v) (number w)) refl);
   }

@@ -19,7 +19,8 @@ fails true f = absurd (f tt)
 fails false f = refl
 
 module _ (x y : Float) (h : proper x ≡ true) (k : proper y ≡ true) where
-  go : (o : Ordering) → MatchOrdering o (rank x <ℤ rank y) (rank x ≡ rank y) (rank y <ℤ rank x) → float_partial_cmp x y ≡ Some o
+  go : (o : Ordering) → MatchOrdering o (rank x <ℤ rank y) (rank x ≡ rank y) (rank y <ℤ rank x)
+      → float_partial_cmp x y ≡ Some o
   go Less r =
       let below : lt x y ≡ true = lt_rank x y h k ∙ grind (arith, ints) in
       rw below
@@ -27,7 +28,8 @@ module _ (x y : Float) (h : proper x ≡ true) (k : proper y ≡ true) where
       let same : y ≡ x = sym (rank_fixes x y h k r) in
       let below : lt x x ≡ false = lt_rank x x h h ∙ grind (arith, ints) in
       let most : le x x ≡ true = le_rank x x h h ∙ grind (arith, ints) in
-      let level : eq x x ≡ true = holds (eq x x) (⊎_elim (λ t. absurd (subst T below t)) (λ t. t) (lt-or-eq x x (subst T (sym most) tt))) in
+      let level : eq x x ≡ true =
+      holds (eq x x) (⊎_elim (λ t. absurd (subst T below t)) (λ t. t) (lt-or-eq x x (subst T (sym most) tt))) in
       subst (λ (z : Float). float_partial_cmp x z ≡ Some Equal) (sym same) (rw (below, level))
   go Greater r =
       let below : lt x y ≡ false = lt_rank x y h k ∙ grind (arith, ints) in

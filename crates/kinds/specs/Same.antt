@@ -10,10 +10,25 @@ use Rattle.kinds.specs.declared.integer_t16.IntegerT16.{IntegerT16}
 use Rattle.kinds.specs.declared.integer_t32.IntegerT32.{IntegerT32}
 
 pub same_t16 : (v w : IntegerT16) → v.value ≡ w.value → v ≡ w
-same_t16 v w p = λ i. record { value = p i; within = is_prop→PathP (λ j. T (nat_lt (mag (p j)) (2 ^ 15))) (λ j. T_prop (nat_lt (mag (p j)) (2 ^ 15))) v.within w.within i }
+same_t16 v w p = λ i. record {
+  value = p i;
+  within =
+      is_prop→PathP (λ j. T (nat_lt (mag (p j)) (2 ^ 15))) (λ j. T_prop (nat_lt (mag (p j)) (2 ^ 15)))
+      v.within w.within i;
+}
 
 pub same_t32 : (v w : IntegerT32) → v.value ≡ w.value → v ≡ w
-same_t32 v w p = λ i. record { value = p i; within = is_prop→PathP (λ j. T (nat_lt (mag (p j)) (2 ^ 31))) (λ j. T_prop (nat_lt (mag (p j)) (2 ^ 31))) v.within w.within i }
+same_t32 v w p = λ i. record {
+  value = p i;
+  within =
+      is_prop→PathP (λ j. T (nat_lt (mag (p j)) (2 ^ 31))) (λ j. T_prop (nat_lt (mag (p j)) (2 ^ 31)))
+      v.within w.within i;
+}
 
 pub same_float : (v w : Float32T) → v.value ≡ w.value → v ≡ w
-same_float v w p = λ i. record { value = p i; allowed = is_prop→PathP (λ j. proper (p j) ≡ true) (λ j. Bool-set (proper (p j)) true) v.allowed w.allowed i }
+same_float v w p = λ i. record {
+  value = p i;
+  allowed =
+      is_prop→PathP (λ j. proper (p j) ≡ true) (λ j. Bool-set (proper (p j)) true)
+      v.allowed w.allowed i;
+}

@@ -1,9 +1,9 @@
-// IntegerT16: a whole number of 16 bits.
 ghost use Rattle.std.specs.Prelude.{◌^◌, T, nat_lt};
 ghost use Rattle.std.specs.Int.Signed.{mag};
 
-pub mod kind;
+mod kind;
 
+/// A whole number of 16 bits. The octets FF FD are -3.
 #[derive(Clone, Copy, PartialEq, PartialOrd)]
 pub struct IntegerT16 {
     value: i16,

@@ -1,9 +1,9 @@
-// IntegerT32: a whole number of 32 bits.
 ghost use Rattle.std.specs.Prelude.{◌^◌, T, nat_lt};
 ghost use Rattle.std.specs.Int.Signed.{mag};
 
-pub mod kind;
+mod kind;
 
+/// A whole number of 32 bits. The octets FF FF FF FD are -3.
 #[derive(Clone, Copy, PartialEq, PartialOrd)]
 pub struct IntegerT32 {
     value: i32,

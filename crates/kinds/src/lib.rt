@@ -1,17 +1,21 @@
-// The kinds of measured value: what each must be able to do, and what it means.
+//! The kinds of measured value: what each must be able to do, and what it means.
+//!
+//! docs/RULES.md, "Kinds of measured value", has the rules.
 #![tactic(auto)]
 
-pub mod float32_t;
-pub mod integer_t16;
-pub mod integer_t32;
-pub mod kind;
+mod float32_t;
+mod integer_t16;
+mod integer_t32;
+mod kind;
+
+pub use float32_t::Float32T;
+pub use integer_t16::IntegerT16;
+pub use integer_t32::IntegerT32;
+pub use kind::Kind;
 
 #[cfg(test)]
 mod tests {
-    use super::float32_t::Float32T;
-    use super::integer_t16::IntegerT16;
-    use super::integer_t32::IntegerT32;
-    use super::kind::Kind;
+    use super::{Float32T, IntegerT16, IntegerT32, Kind};
     use std::test::Fail;
 
     // The octets of a value, as one number.

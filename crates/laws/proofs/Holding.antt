@@ -18,7 +18,7 @@ use Rattle.teach.specs.declared.machine.State.TheVariants.{Idle, BusySingle, Bus
 use Rattle.teach.specs.declared.machine.Teachpoints.{Teachpoints}
 use Rattle.teach.specs.declared.machine.Verdict.TheVariants.{Open, Fails, Stores}
 use Rattle.teach.specs.declared.terms.Terms.{Terms}
-use Rattle.teach.specs.Captures.{taken, widened}
+use Rattle.teach.specs.Captures.{with_value, widened}
 use Rattle.teach.specs.Evaluation.{evaluate_dynamic, evaluate_single, evaluate_two}
 use Rattle.teach.specs.Flags.{both_set}
 use Rattle.teach.specs.Machine.{Moved, applied, fed, moved, no_points, row, same_setpoint}
@@ -72,7 +72,7 @@ module _ {V : Type 0} (m : Meaning V) where
   summary (v ∷ vs) = Some (band v vs)
 
   -- one value more
-  taken_is : (vs : List V) (v : V) → taken m (summary vs) v ≡ band v vs
+  taken_is : (vs : List V) (v : V) → with_value m (summary vs) v ≡ band v vs
   taken_is [] v = refl
   taken_is (w ∷ ws) v = λ i. record { span = span v (w ∷ ws); count = add-one (length (w ∷ ws)) i }
 

@@ -10,12 +10,11 @@ use Rattle.kinds.specs.Meaning.{Meaning}
 use Rattle.channels.specs.declared.range.Range as Ranges
 use Rattle.channels.specs.declared.reading.Reading.{Reading}
 use Rattle.channels.specs.declared.table.Table.{Table}
-use Rattle.channels.specs.Readings.{block_length, counted}
+use Rattle.channels.specs.Readings.{process_data_length, within}
 use Rattle.channels.specs.Table.{fresh_table, has_channel, most_channels, rows_present}
-use Rattle.teach.specs.declared.command.Command.{Command}
 use Rattle.teach.specs.declared.teaching.Store.{Store}
 use Rattle.teach.specs.Machine.{Moved, row_checked}
-use Rattle.teach.specs.Teaching.{idle, is_idle, known, row_in}
+use Rattle.teach.specs.Teaching.{commanded, idle, is_idle}
 use Rattle.objects.specs.declared.access.Access.{Access}
 use Rattle.objects.specs.declared.access.Access.TheVariants.{Read, Write}
 use Rattle.objects.specs.declared.access.Written.{Written}
@@ -26,8 +25,9 @@ use Rattle.sensor.specs.declared.sensor.Sensor.{Sensor}
 use Rattle.sensor.specs.declared.setup.Setup.{Setup}
 use Rattle.sensor.specs.Calls.{Call, set_up, sample, request, open_keypad, write_keypad, close_keypad, restart, Order, to_start, to_sample, to_show, to_select, to_command, to_write, to_open, to_close, to_restart, Act, starts, samples, shows, selects, commands, writes, opens, closes, restarts}
 use Rattle.sensor.specs.Devices.{setpoint_setting}
-use Rattle.sensor.specs.Keypad.{keypad_checked, ticket_checked}
-use Rattle.sensor.specs.Requests.{access_asked, asked_of, octets_shown, past_count, write_asked}
+use Rattle.keypad.specs.Operations.{opening_checked, ticket_checked}
+use Rattle.sensor.specs.Keypad.{keypad_checked}
+use Rattle.sensor.specs.Requests.{access_asked, asked_of, octets_shown, past_count, response_room, write_asked}
 use Rattle.sensor.specs.Rules.{asked, checked, checked_by, performed}
 use Rattle.sensor.specs.Samples.{heard, reading_of, sample_asked}
 use Rattle.sensor.specs.Setups.{ends_checked, fresh_device, lawful_range, range_checked, set_up_checked}
@@ -73,11 +73,11 @@ module _ {V : Type 0} (m : Meaning V) where
       let ends : Result (Ranges.Range V) Fault = ends_checked m (m.read g.range.low) (m.read g.range.high) in
       let counted = past_test keypad (fault SetupUnderKeypad) (cond (not (from_to 1 most_channels g.channels)) (Err (fault ChannelCount)) (then ends (range_checked m g))) e i in
       let read = past_test (not (from_to 1 most_channels g.channels)) (fault ChannelCount) (then ends (range_checked m g)) e counted.1 in
-      let within = passed ends (range_checked m g) e read.1 in
-      let r : Ranges.Range V = within.0 in
-      let given : Result (Device V) Fault = Ok (fresh_device g r) in
-      let lawful = past_test (not (lawful_range m r)) (fault Range) (cond (not (from_to 1 64 g.terms.capture)) (Err (fault CaptureLength)) given) e within.2 in
-      let all = past_test (not (from_to 1 64 g.terms.capture)) (fault CaptureLength) given e lawful.1 in
+      let ranged = passed ends (range_checked m g) e read.1 in
+      let r : Ranges.Range V = ranged.0 in
+      let fresh-device : Result (Device V) Fault = Ok (fresh_device g r) in
+      let lawful = past_test (not (lawful_range m r)) (fault Range) (cond (not (from_to 1 64 g.terms.capture)) (Err (fault CaptureLength)) fresh-device) e ranged.2 in
+      let all = past_test (not (from_to 1 64 g.terms.capture)) (fault CaptureLength) fresh-device e lawful.1 in
       let some : 1 ≤ g.channels = at_least 1 most_channels g.channels read.0 in
       let fresh : Fresh (fresh_device g r) = record {
         teach = refl;
@@ -101,9 +101,7 @@ module _ {V : Type 0} (m : Meaning V) where
       and_from (leb 1 (max n 1)) (leb (max n 1) (rows_present t)) (le-leb 1 (max n 1) (omega arith)) (le-leb (max n 1) (rows_present t) (omega arith))
 
   write_fact : (d : Device V) (place : Place) (w : Written (List ℕ)) (o : Order V) → write_asked m d place w ≡ Ok o → OrderFact d.channels o
-  write_fact d place (Written.Command code) o e =
-      let p = passed (known place code) (λ c. Ok (to_command place c)) o e in
-      subst (OrderFact d.channels) (ok_same (to_command place p.0) o p.2) tt
+  write_fact d place (Written.Command code) o e = subst (OrderFact d.channels) (ok_same (to_command place code) o e) tt
   write_fact d place (Written.Select n) o e =
       let p = past_test (past_count d n) (fault_at NoValue place) (Ok (to_select (max n 1))) o e in
       subst (OrderFact d.channels) (ok_same (to_select (max n 1)) o p.1) (selectable d.channels n p.0)
@@ -118,27 +116,27 @@ module _ {V : Type 0} (m : Meaning V) where
   sample_fact : (d : Device V) (r : Option (Reading V)) (room : ℕ) (o : Order V) → sample_asked m d r room ≡ Ok o → OrderFact d.channels o
   sample_fact d None room o e = absurd (err_ok (fault NoValue) o e)
   sample_fact d (Some r) room o e =
-      let s : Order V = to_sample (counted m d.range.low d.range.high r) in
-      let p = past_test (ltb room (block_length m)) (fault BufferTooShort) (Ok s) o e in
+      let s : Order V = to_sample (within m d.range.low d.range.high r) in
+      let p = past_test (ltb room (process_data_length m)) (fault BufferTooShort) (Ok s) o e in
       subst (OrderFact d.channels) (ok_same s o p.1) tt
 
   pub order_fact : (d : Device V) (c : Call) (o : Order V) → asked m d c ≡ Ok o → OrderFact d.channels o
   order_fact d (set_up g) o e =
-      let p = passed (set_up_checked m d.keypad g) (λ f. Ok (to_start f)) o e in
-      subst (OrderFact d.channels) (ok_same (to_start p.0) o p.2) (set_up_fresh d.keypad g p.0 p.1)
+      let p = passed (set_up_checked m d.keypad.is_open g) (λ f. Ok (to_start f)) o e in
+      subst (OrderFact d.channels) (ok_same (to_start p.0) o p.2) (set_up_fresh d.keypad.is_open g p.0 p.1)
   order_fact d (sample r room) o e = sample_fact d (reading_of m r) room o e
   order_fact d (request frame room) o e =
-      let p = past_test (ltb room 16) (fault ResponseBuffer) (then (decoded frame) (asked_of m d)) o e in
+      let p = past_test (ltb room response_room) (fault ResponseBuffer) (then (decoded frame) (asked_of m d)) o e in
       let q = passed (decoded frame) (asked_of m d) o p.1 in
-      let s = passed (access_checked m d.channels d.keypad q.0) (access_asked m d (place_of q.0)) o q.2 in
+      let s = passed (access_checked m d.channels d.keypad.is_open q.0) (access_asked m d (place_of q.0)) o q.2 in
       access_fact d (place_of q.0) s.0 o s.2
-  order_fact d open_keypad o e = subst (OrderFact d.channels) (ok_same to_open o (past_test d.keypad (fault AlreadyOpen) (Ok to_open) o e).1) tt
+  order_fact d open_keypad o e = subst (OrderFact d.channels) (ok_same to_open o e) tt
   order_fact d (write_keypad serial k n octets) o e =
       let write : Store V → Order V = λ s. to_write k (setpoint_setting s.setpoint s.value ∷ []) in
       let p = passed (keypad_checked m d serial k n octets) (λ s. Ok (write s)) o e in
       subst (OrderFact d.channels) (ok_same (write p.0) o p.2) tt
   order_fact d (close_keypad serial) o e =
-      let p = passed (ticket_checked d serial) (λ _. Ok to_close) o e in
+      let p = passed (ticket_checked d.keypad serial) (λ _. Ok to_close) o e in
       subst (OrderFact d.channels) (ok_same to_close o p.2) tt
   order_fact d restart o e = subst (OrderFact d.channels) (ok_same to_restart o e) tt
 
@@ -149,27 +147,20 @@ module _ {V : Type 0} (m : Meaning V) where
   Origin d call (starts e) = Fresh e
   Origin d call (samples r x) = x ≡ heard m d r
   Origin d call (selects k) = 1 ≤ rows_present d.channels → has_channel d.channels k ≡ true
-  Origin d call (commands x) = (c : Command) × (row_in m d.terms d.teach c ≡ Some x) × (place : Place) × (asked m d call ≡ Ok (to_command place c))
   Origin d call a = Unit {0}
-
-  row_origin : (d : Device V) (place : Place) (o : Option (Moved V)) (x : Moved V) → row_checked place o ≡ Ok x → o ≡ Some x
-  row_origin d place None x e = absurd (err_ok (fault_at NotInState place) x e)
-  row_origin d place (Some y) x e = ap Some (ok_same y x e)
 
   order_origin : (d : Device V) (call : Call) (o : Order V) (a : Act V) → asked m d call ≡ Ok o → performed m d o ≡ Ok a → Origin d call a
   order_origin d call (to_start f) a i e = subst (Origin d call) (ok_same (starts f) a e) (order_fact d call (to_start f) i)
   order_origin d call (to_sample r) a i e = subst (Origin d call) (ok_same (samples r (heard m d r)) a e) refl
   order_origin d call (to_show shown) a i e = subst (Origin d call) (ok_same (shows (octets_shown m d shown)) a e) tt
   order_origin d call (to_select k) a i e = subst (Origin d call) (ok_same (selects k) a e) (order_fact d call (to_select k) i)
-  order_origin d call (to_command place c) a i e =
-      let p = passed (row_checked place (row_in m d.terms d.teach c)) (λ x. Ok (commands x)) a e in
-      subst (Origin d call) (ok_same (commands p.0) a p.2) (c, row_origin d place (row_in m d.terms d.teach c) p.0 p.1, place, i)
+  order_origin d call (to_command place code) a i e =
+      let p = passed (commanded m d.terms place d.teach code) (λ x. Ok (commands x)) a e in
+      subst (Origin d call) (ok_same (commands p.0) a p.2) tt
   order_origin d call (to_write k ss) a i e = subst (Origin d call) (ok_same (writes k ss) a e) tt
-  order_origin d call to_open a i e = go (is_idle d.teach.state) e
-    where
-      go : (b : Bool) → cond b (Ok opens) (Err (fault TeachRunning)) ≡ Ok a → Origin d call a
-      go true e = subst (Origin d call) (ok_same opens a e) tt
-      go false e = absurd (err_ok (fault TeachRunning) a e)
+  order_origin d call to_open a i e =
+      let p = passed (opening_checked d.keypad (is_idle d.teach.state)) (λ _. Ok opens) a e in
+      subst (Origin d call) (ok_same opens a p.2) tt
   order_origin d call to_close a i e = subst (Origin d call) (ok_same closes a e) tt
   order_origin d call to_restart a i e = subst (Origin d call) (ok_same restarts a e) tt
 

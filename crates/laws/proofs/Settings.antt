@@ -10,19 +10,19 @@ use Rattle.channels.specs.declared.reading.Reading.TheVariants.{Value, Below, Ab
 use Rattle.channels.specs.declared.row.Row.{Row}
 use Rattle.channels.specs.declared.table.Table.{Table}
 use Rattle.channels.specs.Judging.{judged}
-use Rattle.channels.specs.Table.{fresh_row, fresh_table, judged_table, most_channels, nth, rested, row_at}
+use Rattle.channels.specs.Table.{fresh_row, fresh_table, judged_table, most_channels, nth, inactive_row, row_at}
 use Rattle.teach.specs.declared.teaching.Store.{Store}
 use Rattle.teach.specs.Teaching.{store_of}
 use Rattle.objects.specs.Writes.{Setting, sets_sp1, sets_sp2, sets_logic, sets_mode, sets_hysteresis, with_setting, with_settings}
 use Rattle.sensor.specs.declared.device.Device.{Device}
 use Rattle.sensor.specs.declared.sensor.Sensor.{Sensor}
 use Rattle.sensor.specs.Calls.{Call, Act, starts, samples, commands, writes, restarts}
-use Rattle.sensor.specs.Devices.{given, setpoint_setting, stored, stored_settings}
+use Rattle.sensor.specs.Devices.{with_settings_at, setpoint_setting, stored, stored_settings}
 use Rattle.sensor.specs.Rules.{after, blank, checked, device_by, next, next_by}
 use Rattle.laws.specs.Events.{row_of}
 use Rattle.laws.specs.Settings.{LastWrittenStands, given_in, gives, hysteresis_of, latest, logic_of, mode_of, or_else, set_up_settings, sp1_of, sp2_of}
 use Rattle.laws.proofs.Origins.{Fresh, fresh_of}
-use Rattle.laws.proofs.Tables.{given_at, given_other, judged_at, rested_at, row_there}
+use Rattle.laws.proofs.Tables.{given_at, given_other, judged_at, inactive_at, row_there}
 
 module _ {V : Type 0} where
   mapped_id : (o : Option (Row V)) → o ≡ option_map (λ r. r) o
@@ -34,16 +34,16 @@ module _ {V : Type 0} where
   mapped_both f g (Some r) = refl
 
   -- settings given to a channel show in that channel alone
-  pub given_to : (t : Table V) (j k : ℕ) (ss : List (Setting V)) → row_at (given t j ss) k ≡ option_map (λ r. with_settings r (cond (eqb j k) ss [])) (row_at t k)
+  pub given_to : (t : Table V) (j k : ℕ) (ss : List (Setting V)) → row_at (with_settings_at t j ss) k ≡ option_map (λ r. with_settings r (cond (eqb j k) ss [])) (row_at t k)
   given_to t j k ss = ⊎_elim same other (cases_Bool (eqb j k))
     where
-      same : eqb j k ≡ true → row_at (given t j ss) k ≡ option_map (λ r. with_settings r (cond (eqb j k) ss [])) (row_at t k)
+      same : eqb j k ≡ true → row_at (with_settings_at t j ss) k ≡ option_map (λ r. with_settings r (cond (eqb j k) ss [])) (row_at t k)
       same e =
-          ap (λ i. row_at (given t i ss) k) (eqb-true j k e)
+          ap (λ i. row_at (with_settings_at t i ss) k) (eqb-true j k e)
           ∙ given_at t k ss
           ∙ ap (λ (b : Bool). option_map (λ r. with_settings r (cond b ss [])) (row_at t k)) (sym e)
 
-      other : eqb j k ≡ false → row_at (given t j ss) k ≡ option_map (λ r. with_settings r (cond (eqb j k) ss [])) (row_at t k)
+      other : eqb j k ≡ false → row_at (with_settings_at t j ss) k ≡ option_map (λ r. with_settings r (cond (eqb j k) ss [])) (row_at t k)
       other e =
           given_other t j k ss e
           ∙ mapped_id (row_at t k)
@@ -71,7 +71,7 @@ module _ {V : Type 0} (m : Meaning V) where
   -- the effect on a state of a call that is no set-up: samples judge, a restart makes inactive
   abbrev pub turned : Result (Act V) Fault → Row V → Row V
   turned (Ok (samples x g)) r = judged m x r
-  turned (Ok restarts) r = rested r
+  turned (Ok restarts) r = inactive_row r
   turned x r = r
 
   row_device : (d : Device V) (k : ℕ) (x : Result (Act V) Fault) → sets_up x ≡ false → row_at (device_by m d x).channels k ≡ option_map (λ r. with_settings (turned x r) (gives k (record { device = Some d }) x)) (row_at d.channels k)
@@ -83,7 +83,7 @@ module _ {V : Type 0} (m : Meaning V) where
       ∙ mapped_both (judged m x) given (row_at d.channels k)
   row_device d k (Ok (commands g)) n = stored_to d.channels d.selected k (store_of g.effect.verdict)
   row_device d k (Ok (writes j ss)) n = given_to d.channels j k ss
-  row_device d k (Ok restarts) n = rested_at d.channels k
+  row_device d k (Ok restarts) n = inactive_at d.channels k
   row_device d k x n = mapped_id (row_at d.channels k)
 
   -- a channel's row after a call that is no set-up: its state turned, its settings those that the call gives

@@ -6,14 +6,14 @@ use Rattle.kinds.specs.Meaning.{Meaning}
 use Rattle.channels.specs.declared.row.Row.{Row}
 use Rattle.channels.specs.declared.table.Table.{Table}
 use Rattle.channels.specs.Judging.{judged}
-use Rattle.channels.specs.Table.{has_channel, judged_table, most_channels, nth, rested, row_at, rows_present}
+use Rattle.channels.specs.Table.{has_channel, judged_table, most_channels, nth, inactive_row, row_at, rows_present}
 use Rattle.teach.specs.declared.teaching.Store.{Store}
 use Rattle.teach.specs.Teaching.{store_of}
 use Rattle.objects.specs.Writes.{Setting}
 use Rattle.sensor.specs.declared.device.Device.{Device}
 use Rattle.sensor.specs.declared.sensor.Sensor.{Sensor}
 use Rattle.sensor.specs.Calls.{Call, Act, starts, samples, shows, selects, commands, writes, opens, closes, restarts}
-use Rattle.sensor.specs.Devices.{given, on_row, setpoint_setting, stored}
+use Rattle.sensor.specs.Devices.{with_settings_at, on_row, setpoint_setting, stored}
 use Rattle.sensor.specs.Rules.{after, blank, checked, device_by, next, next_by}
 use Rattle.laws.proofs.Origins.{Fresh, Origin, OriginIn, origin_of}
 use Rattle.laws.proofs.Tables.{there}
@@ -39,14 +39,14 @@ module _ {V : Type 0} where
   mapped_length f (suc n) [] = refl
   mapped_length f (suc n) (r ∷ rows) = ap suc (mapped_length f n rows)
 
-  given_rows : (t : Table V) (k : ℕ) (ss : List (Setting V)) → length (given t k ss).rows ≡ length t.rows
+  given_rows : (t : Table V) (k : ℕ) (ss : List (Setting V)) → length (with_settings_at t k ss).rows ≡ length t.rows
   given_rows t k ss = go (row_at t k)
     where
       go : (o : Option (Row V)) → length (on_row t k ss o).rows ≡ length t.rows
       go None = refl
       go (Some r) = set_length (has_channel t k) t.rows (k - 1) _
 
-  given_there : (t : Table V) (j k : ℕ) (ss : List (Setting V)) → has_channel (given t j ss) k ≡ has_channel t k
+  given_there : (t : Table V) (j k : ℕ) (ss : List (Setting V)) → has_channel (with_settings_at t j ss) k ≡ has_channel t k
   given_there t j k ss = go (row_at t j)
     where
       go : (o : Option (Row V)) → has_channel (on_row t j ss o) k ≡ has_channel t k
@@ -107,7 +107,7 @@ module _ {V : Type 0} (m : Meaning V) where
   sound_device d c (Ok closes) o s = record { selected_there = s.selected_there; every_row = s.every_row }
   sound_device d c (Ok restarts) o s = record {
     selected_there = first_there d.channels (let p = there d.channels d.selected s.selected_there in omega arith);
-    every_row = mapped_length rested (rows_present d.channels) d.channels.rows ∙ s.every_row;
+    every_row = mapped_length inactive_row (rows_present d.channels) d.channels.rows ∙ s.every_row;
   }
 
   sound_by : (o : Option (Device V)) (c : Call) (x : Result (Act V) Fault) → ((a : Act V) → x ≡ Ok a → OriginIn m o c a) → Sound (record { device = o }) → Sound (record { device = next_by m o x })

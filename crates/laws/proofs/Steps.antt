@@ -15,7 +15,7 @@ use Rattle.objects.specs.Writes.{Setting, sets_sp1, sets_sp2, sets_logic, sets_m
 use Rattle.sensor.specs.declared.sensor.Sensor.{Sensor}
 use Rattle.sensor.specs.Calls.{Act, starts, samples, commands, writes, restarts}
 use Rattle.sensor.specs.Devices.{stored_settings}
-use Rattle.laws.specs.Events.{active_in, begins, is_stored, row_of, selected_of, state_of, touches, value_of}
+use Rattle.laws.specs.Events.{active_in, starts_over, is_stored, row_of, selected_of, state_of, touches, value_of}
 use Rattle.laws.specs.Settings.{gives}
 use Rattle.laws.proofs.Settings.{row_next, sets_up, turned, went}
 
@@ -56,7 +56,7 @@ module _ {V : Type 0} where
   none_given s k (Ok (writes j ss)) n u = ap (λ (b : Bool). cond b ss []) (false_or (eqb j k) _ u)
   none_given s k x n u = refl
 
-  set_up_begins : (x : Result (Act V) Fault) → begins x ≡ false → sets_up x ≡ false
+  set_up_begins : (x : Result (Act V) Fault) → starts_over x ≡ false → sets_up x ≡ false
   set_up_begins (Ok (starts e)) n = n
   set_up_begins x n = refl
 
@@ -77,10 +77,10 @@ module _ {V : Type 0} (m : Meaning V) where
   state_went s k r x n e = ap active_in (row_went s k r x n e) ∙ settings_active (turned m x r) (gives k s x)
 
   -- a row stands where its channel does not turn and is not touched, and the sensor is neither restarted nor set up anew
-  pub hold : (s : Sensor V) (k : ℕ) (r : Row V) (x : Result (Act V) Fault) → row_of s k ≡ Some r → ((v : V) → Turned k s x v → ⊥) → touches k s x ≡ false → begins x ≡ false → row_of (went m s x) k ≡ Some r
+  pub hold : (s : Sensor V) (k : ℕ) (r : Row V) (x : Result (Act V) Fault) → row_of s k ≡ Some r → ((v : V) → Turned k s x v → ⊥) → touches k s x ≡ false → starts_over x ≡ false → row_of (went m s x) k ≡ Some r
   hold s k r x e t u n = row_turned s k r x (set_up_begins x n) u e ∙ ap Some (go x t n)
     where
-      go : (x : Result (Act V) Fault) → ((v : V) → Turned k s x v → ⊥) → begins x ≡ false → turned m x r ≡ r
+      go : (x : Result (Act V) Fault) → ((v : V) → Turned k s x v → ⊥) → starts_over x ≡ false → turned m x r ≡ r
       go (Ok (samples (Value v) g)) t n =
           let q : state_after m v r ≡ r.active = kept_state r.active (state_after m v r) (λ i. t v (refl, state_went s k r (Ok (samples (Value v) g)) refl e ∙ i ∙ ap (λ o. not (active_in o)) (sym e))) in
           ap (λ (b : Bool). record { sp1 = r.sp1; sp2 = r.sp2; hysteresis = r.hysteresis; logic = r.logic; mode = r.mode; active = b }) q

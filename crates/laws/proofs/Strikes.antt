@@ -1,21 +1,24 @@
 -- An unfinished teach or another channel never shows in a channel: each call keeps the struck run beside the full one.
-use Rattle.std.proofs.Common.{◌≡◌, ℕ, Bool, true, false, cond, ◌&&◌, eqb, List, [], ◌∷◌, Some, None, Ok, Err, Option, Result, sym, refl, ap, subst, ap₂}
+use Rattle.std.proofs.Common.{◌≡◌, ℕ, Bool, true, false, cond, not, ◌&&◌, eqb, List, [], ◌∷◌, Some, None, Ok, Err, Option, Result, sym, refl, ap, subst, ap₂}
 use Rattle.faults.specs.declared.Fault.{Fault}
 use Rattle.faults.specs.declared.Place.{Place}
-use Rattle.faults.specs.declared.Denial.TheVariants.{TeachRunning}
+use Rattle.faults.specs.declared.Denial.TheVariants.{AlreadyOpen, TeachRunning}
 use Rattle.faults.specs.Denials.{fault, then}
+use Rattle.keypad.specs.Operations.{closed, opened}
 use Rattle.kinds.specs.Meaning.{Meaning}
 use Rattle.channels.specs.declared.reading.Reading.{Reading}
 use Rattle.channels.specs.declared.row.Row.{Row}
 use Rattle.channels.specs.Judging.{judged}
-use Rattle.channels.specs.Table.{judged_table, rested, rested_table}
+use Rattle.channels.specs.Table.{judged_table, inactive_row, inactive_table}
 use Rattle.teach.specs.Machine.{Moved, row_checked}
-use Rattle.teach.specs.Teaching.{is_idle, row_in}
+use Rattle.teach.specs.declared.command.Command.{Command}
+use Rattle.teach.specs.Commands as Commands
+use Rattle.teach.specs.Teaching.{is_idle, named, row_in}
 use Rattle.sensor.specs.declared.device.Device.{Device}
 use Rattle.sensor.specs.declared.sensor.Sensor.{Sensor}
 use Rattle.sensor.specs.Calls.{Call, Order, to_start, to_sample, to_show, to_select, to_command, to_write, to_open, to_close, to_restart, Act, starts, samples, commands, writes, opens}
-use Rattle.sensor.specs.Devices.{taken, with_channels}
-use Rattle.sensor.specs.Rules.{after, asked, blank, carried, checked, next}
+use Rattle.sensor.specs.Devices.{after_step, with_channels}
+use Rattle.sensor.specs.Rules.{after, asked, blank, carried, checked, next, performed}
 use Rattle.sensor.specs.Samples.{heard}
 use Rattle.laws.specs.Events.{is_accepted, resting, row_of, selected_of, stores}
 use Rattle.laws.specs.Strikes.{AllAccepted, ForeignCallsLeaveNoTrace, after_each, after_staying, finished, shown_in, shows_of, stays, stays_by, struck}
@@ -24,7 +27,7 @@ use Rattle.laws.proofs.Each.{Each}
 use Rattle.laws.proofs.Origins.{fresh_of, origin_of}
 use Rattle.laws.proofs.Settings.{went}
 use Rattle.laws.proofs.Struck.{Beside, Leads, Same, both_changed, both_given, both_keypads, both_select, both_taken, go_on, heard_leads, heard_same, idle_is, itself, one_taken, other_given, rests, row_leads, row_same, unheard}
-use Rattle.laws.proofs.Tables.{judged_at, rested_at}
+use Rattle.laws.proofs.Tables.{judged_at, inactive_at}
 
 -- by what a test says
 decide : (P : Bool → Type 0) (b : Bool) → (b ≡ true → P true) → (b ≡ false → P false) → P b
@@ -82,7 +85,7 @@ module _ {V : Type 0} (m : Meaning V) (k : ℕ) where
         let e' = with_channels e (judged_table m r e.channels) in
         let v = both_changed w (judged m r) d'.channels e'.channels refl refl (judged_at m r d.channels k) (judged_at m r e.channels k) in
         let l = cond (is_idle x.state) false (finished m (went m full (Ok (samples r x))) cs) in
-        let P : Moved V → Type 0 = λ y. Beside k (eqb d.selected k && l) (taken d' x) (taken e' y) in (
+        let P : Moved V → Type 0 = λ y. Beside k (eqb d.selected k && l) (after_step d' x) (after_step e' y) in (
           refl,
           decide (λ _. P (heard m e r)) (due_by full (Ok (samples r x)) cs)
               (λ y. subst P (sym (heard_same m d e r (ap (λ (z : Device V). z.terms) w.fixed) (w.on y).state)) (both_taken l x v y (heard_leads m d r)))
@@ -101,14 +104,28 @@ module _ {V : Type 0} (m : Meaning V) (k : ℕ) where
         subst (λ y. P (due_by full y cs) p) (sym q)
         (decide (λ b. P b p) (due_by full (Ok (commands x)) cs) (λ y. subst (P true) (sym (a (w.on y))) (refl, both_taken l x w y f)) (λ y. one_taken l x w y))
 
-    abbrev opened : Bool → Result (Act V) Fault
-    opened b = cond b (Ok opens) (Err (fault TeachRunning))
+    -- what a command comes to, by the row of its code
+    abbrev coming : Device V → Place → Option Command → Result (Act V) Fault
+    coming x place y = then (then (named place y) (λ z. row_checked place (row_in m x.terms x.teach z))) (λ g. Ok (commands g))
 
-    opening_owes : (b : Bool) → is_idle d.teach.state ≡ b → Given (opened b) → Owes (stays_by m k full (c ∷ cs) (opened b)) (opened b) (opened (is_idle e.teach.state))
-    opening_owes true i w =
+    code_owes : (place : Place) (y : Option Command) → checked m full c ≡ coming d place y → Given (coming d place y)
+        → Owes (stays_by m k full (c ∷ cs) (coming d place y)) (coming d place y) (coming e place y)
+    code_owes place None q w = w
+    code_owes place (Some z) q w =
+        command_owes place (row_in m d.terms d.teach z) (row_in m e.terms e.teach z) q (row_leads m d.terms d.teach.flags d.teach.state z.step z)
+        (λ s. rw (ap (λ (x : Device V). x.terms) w.fixed, s.state) (row_same m d.terms d.teach.flags e.teach.flags d.teach.state z.step z s.flags)) w
+
+    -- what an opening comes to, by whether an operation is open and whether the teach is idle
+    abbrev opening : Bool → Bool → Result (Act V) Fault
+    opening a b = then (cond a (Err (fault AlreadyOpen)) (cond (not b) (Err (fault TeachRunning)) (Ok (tt {0})))) (λ _. Ok opens)
+
+    opening_owes : (a b : Bool) → is_idle d.teach.state ≡ b → Given (opening a b)
+        → Owes (stays_by m k full (c ∷ cs) (opening a b)) (opening a b) (opening a (is_idle e.teach.state))
+    opening_owes true b i w = w
+    opening_owes false true i w =
         let j = ap is_idle (rests _ (finished m (went m full (Ok opens)) cs) w i) in
-        subst (λ b. Owes true (Ok opens) (opened b)) (sym j) (refl, both_keypads w true)
-    opening_owes false i w = w
+        subst (λ b. Owes true (Ok opens) (opening false b)) (sym j) (refl, both_keypads w opened)
+    opening_owes false false i w = w
 
     order_owes : (o : Result (Order V) Fault) → checked m full c ≡ carried m d o → Given (carried m d o) → Owes (stays_by m k full (c ∷ cs) (carried m d o)) (carried m d o) (carried m e o)
     order_owes (Err f) q w = w
@@ -116,15 +133,17 @@ module _ {V : Type 0} (m : Meaning V) (k : ℕ) where
     order_owes (Ok (to_sample r)) q w = sample_owes r w
     order_owes (Ok (to_show s)) q w = w
     order_owes (Ok (to_select j)) q w = (refl, both_select w j)
-    order_owes (Ok (to_command place z)) q w =
-        command_owes place (row_in m d.terms d.teach z) (row_in m e.terms e.teach z) q (row_leads m d.terms d.teach.flags d.teach.state z.step z)
-        (λ s. rw (ap (λ (x : Device V). x.terms) w.fixed, s.state) (row_same m d.terms d.teach.flags e.teach.flags d.teach.state z.step z s.flags)) w
+    order_owes (Ok (to_command place code)) q w = code_owes place (Commands.command_of code) q w
     order_owes (Ok (to_write j ss)) q w =
         decide (λ b. Owes b (Ok (writes j ss)) (Ok (writes j ss))) (eqb j k) (λ i. (refl, both_given w j ss)) (λ i. other_given w j ss i)
-    order_owes (Ok to_open) q w = opening_owes (is_idle d.teach.state) refl w
-    order_owes (Ok to_close) q w = (refl, both_keypads w false)
+    order_owes (Ok to_open) q w =
+        subst
+        (λ p. Owes (stays_by m k full (c ∷ cs) (performed m d to_open)) (performed m d to_open) (opening p (is_idle e.teach.state)))
+        (sym (ap (λ (x : Device V). x.keypad.is_open) w.fixed))
+        (opening_owes d.keypad.is_open (is_idle d.teach.state) refl w)
+    order_owes (Ok to_close) q w = (refl, both_keypads w closed)
     order_owes (Ok to_restart) q w =
-        (refl, both_select (both_changed w rested (rested_table d.channels) (rested_table e.channels) refl refl (rested_at d.channels k) (rested_at e.channels k)) 1)
+        (refl, both_select (both_changed w inactive_row (inactive_table d.channels) (inactive_table e.channels) refl refl (inactive_at d.channels k) (inactive_at e.channels k)) 1)
 
   -- a blank sensor takes a set-up alone
   blank_owes : (c : Call) (cs : List Call) (x : Result (Act V) Fault) → checked m blank c ≡ x → Owed (stays_by m k blank (c ∷ cs) x) blank blank x x cs

@@ -2,6 +2,7 @@
 use Rattle.std.proofs.Common.{◌≡◌, ℕ, Bool, true, false, cond, ◌&&◌, eqb, List, [], ◌∷◌, Some, None, Option, sym, refl, ap, ◌∙◌, arith}
 use Rattle.std.specs.Option.{option_map}
 use Rattle.std.proofs.lemmas.Bool.{and_right, false≢true, true≢false}
+use Rattle.keypad.specs.declared.Keypad.{Keypad}
 use Rattle.kinds.specs.Meaning.{Meaning}
 use Rattle.channels.specs.declared.reading.Reading.{Reading}
 use Rattle.channels.specs.declared.reading.Reading.TheVariants.{Value}
@@ -31,7 +32,7 @@ use Rattle.teach.specs.Teachpoints.{with_teachpoint}
 use Rattle.teach.specs.Teaching.{is_idle, store_of}
 use Rattle.objects.specs.Writes.{Setting, with_settings}
 use Rattle.sensor.specs.declared.device.Device.{Device}
-use Rattle.sensor.specs.Devices.{given, on_row, selecting, setpoint_setting, stored, stored_settings, taken, with_channels, with_keypad}
+use Rattle.sensor.specs.Devices.{with_settings_at, on_row, selecting, setpoint_setting, stored, stored_settings, after_step, with_channels, with_keypad}
 use Rattle.sensor.specs.Samples.{heard}
 use Rattle.laws.specs.Events.{is_stored}
 use Rattle.laws.proofs.Again.{bare}
@@ -103,8 +104,8 @@ module _ {V : Type 0} where
 module _ {V : Type 0} (m : Meaning V) (t : Terms) where
   fed_leads : (s : State V) (v : V) → Leads s (fed m t s v)
   fed_leads Idle v = ended
-  fed_leads (BusySingle sp k) v = either (full m t (Captures.taken m k v)) ended (goes refl)
-  fed_leads (BusyTwo sp tp k p) v = either (full m t (Captures.taken m k v)) (goes refl) (goes refl)
+  fed_leads (BusySingle sp k) v = either (full m t (Captures.with_value m k v)) ended (goes refl)
+  fed_leads (BusyTwo sp tp k p) v = either (full m t (Captures.with_value m k v)) (goes refl) (goes refl)
   fed_leads s v = goes refl
 
   applied_leads : (f : Flags) (s : State V) (sp : Setpoint) (a b : Option V) → Each (Leads s) (applied m f t sp a b)
@@ -168,7 +169,7 @@ neither false d l e = (refl, refl)
 
 module _ {V : Type 0} where
   -- settings leave the number of channels
-  given_count : (t : Table V) (j : ℕ) (ss : List (Setting V)) → (given t j ss).count ≡ t.count
+  given_count : (t : Table V) (j : ℕ) (ss : List (Setting V)) → (with_settings_at t j ss).count ≡ t.count
   given_count t j ss = go (row_at t j)
     where
       go : (o : Option (Row V)) → (on_row t j ss o).count ≡ t.count
@@ -198,16 +199,16 @@ module _ {V : Type 0} where
     pub both_changed : (f : Row V → Row V) (t u : Table V) → t.count ≡ d.channels.count → u.count ≡ e.channels.count → row_at t k ≡ option_map f (row_at d.channels k) → row_at u k ≡ option_map f (row_at e.channels k) → Beside k b (with_channels d t) (with_channels e u)
     both_changed f t u c c' i j = with_tables t u c c' (j ∙ ap (option_map f) w.row ∙ sym i)
 
-    pub both_given : (j : ℕ) (ss : List (Setting V)) → Beside k b (with_channels d (given d.channels j ss)) (with_channels e (given e.channels j ss))
+    pub both_given : (j : ℕ) (ss : List (Setting V)) → Beside k b (with_channels d (with_settings_at d.channels j ss)) (with_channels e (with_settings_at e.channels j ss))
     both_given j ss =
-        both_changed (λ r. with_settings r (cond (eqb j k) ss [])) (given d.channels j ss) (given e.channels j ss)
+        both_changed (λ r. with_settings r (cond (eqb j k) ss [])) (with_settings_at d.channels j ss) (with_settings_at e.channels j ss)
         (given_count d.channels j ss) (given_count e.channels j ss) (given_to d.channels j k ss) (given_to e.channels j k ss)
 
-    pub other_given : (j : ℕ) (ss : List (Setting V)) → eqb j k ≡ false → Beside k b (with_channels d (given d.channels j ss)) e
-    other_given j ss i = with_tables (given d.channels j ss) e.channels (given_count d.channels j ss) refl (w.row ∙ sym (given_other d.channels j k ss i))
+    pub other_given : (j : ℕ) (ss : List (Setting V)) → eqb j k ≡ false → Beside k b (with_channels d (with_settings_at d.channels j ss)) e
+    other_given j ss i = with_tables (with_settings_at d.channels j ss) e.channels (given_count d.channels j ss) refl (w.row ∙ sym (given_other d.channels j k ss i))
 
-    pub both_keypads : (o : Bool) → Beside k b (with_keypad d o) (with_keypad e o)
-    both_keypads o = record { fixed = ap (λ x. with_keypad x o) w.fixed; row = w.row; on = w.on; off = w.off }
+    pub both_keypads : (f : Keypad → Keypad) → Beside k b (with_keypad d (f d.keypad)) (with_keypad e (f e.keypad))
+    both_keypads f = record { fixed = ap (λ (x : Device V). with_keypad x (f x.keypad)) w.fixed; row = w.row; on = w.on; off = w.off }
 
     pub both_select : {b' : Bool} (j : ℕ) → Beside k b' (selecting d j) (selecting e j)
     both_select j = record {
@@ -237,7 +238,7 @@ module _ {V : Type 0} where
     store = store_of x.effect.verdict
 
     -- both runs take the teach on
-    pub both_taken : (eqb d.selected k && cond (is_stored x.effect.verdict) true l) ≡ true → Leads d.teach.state x → Beside k (eqb d.selected k && l) (taken d x) (taken e x)
+    pub both_taken : (eqb d.selected k && cond (is_stored x.effect.verdict) true l) ≡ true → Leads d.teach.state x → Beside k (eqb d.selected k && l) (after_step d x) (after_step e x)
     both_taken y f =
         let i : e.selected ≡ d.selected = ap (λ (z : Device V). z.selected) w.fixed in
         let v = both_changed w (λ r. with_settings r (cond (eqb d.selected k) (stored_settings store) [])) (stored d.channels d.selected store) (stored e.channels e.selected store)
@@ -250,7 +251,7 @@ module _ {V : Type 0} where
         }
 
     -- the full run alone does
-    pub one_taken : (eqb d.selected k && cond (is_stored x.effect.verdict) true l) ≡ false → Beside k (eqb d.selected k && l) (taken d x) e
+    pub one_taken : (eqb d.selected k && cond (is_stored x.effect.verdict) true l) ≡ false → Beside k (eqb d.selected k && l) (after_step d x) e
     one_taken y =
         let n = neither (eqb d.selected k) (is_stored x.effect.verdict) l y in
         record {

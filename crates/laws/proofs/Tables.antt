@@ -7,12 +7,12 @@ use Rattle.channels.specs.declared.reading.Reading.{Reading}
 use Rattle.channels.specs.declared.row.Row.{Row}
 use Rattle.channels.specs.declared.table.Table.{Table}
 use Rattle.channels.specs.Judging.{judged}
-use Rattle.channels.specs.Table.{has_channel, judged_table, nth, rested, rested_table, row_at, rows_present, with_row}
+use Rattle.channels.specs.Table.{has_channel, judged_table, nth, inactive_row, inactive_table, row_at, rows_present, with_row}
 use Rattle.teach.specs.declared.machine.Verdict.{Verdict}
 use Rattle.teach.specs.declared.machine.Verdict.TheVariants.{Open, Fails, Stores}
 use Rattle.teach.specs.Teaching.{store_of}
 use Rattle.objects.specs.Writes.{Setting, with_settings}
-use Rattle.sensor.specs.Devices.{given, on_row, setpoint_setting, stored}
+use Rattle.sensor.specs.Devices.{with_settings_at, on_row, setpoint_setting, stored}
 use Rattle.laws.specs.Events.{is_stored}
 
 module _ {A : Type 0} where
@@ -52,8 +52,8 @@ module _ {V : Type 0} where
   pub judged_at : (m : Meaning V) (r : Reading V) (t : Table V) (k : ℕ) → row_at (judged_table m r t) k ≡ option_map (judged m r) (row_at t k)
   judged_at m r t k = every_row (judged m r) t k
 
-  pub rested_at : (t : Table V) (k : ℕ) → row_at (rested_table t) k ≡ option_map rested (row_at t k)
-  rested_at t k = every_row rested t k
+  pub inactive_at : (t : Table V) (k : ℕ) → row_at (inactive_table t) k ≡ option_map inactive_row (row_at t k)
+  inactive_at t k = every_row inactive_row t k
 
   some_row : (b : Bool) (o : Option (Row V)) (r : Row V) → cond b o None ≡ Some r → (b ≡ true) × (o ≡ Some r)
   some_row true o r e = (refl, e)
@@ -78,14 +78,14 @@ module _ {V : Type 0} where
           nth_set_other t.rows (j - 1) (k - 1) s (λ i. n (omega (arith, there t j p, there t k q)))
 
   -- settings given to a channel
-  pub given_at : (t : Table V) (k : ℕ) (ss : List (Setting V)) → row_at (given t k ss) k ≡ option_map (λ r. with_settings r ss) (row_at t k)
+  pub given_at : (t : Table V) (k : ℕ) (ss : List (Setting V)) → row_at (with_settings_at t k ss) k ≡ option_map (λ r. with_settings r ss) (row_at t k)
   given_at t k ss = go (row_at t k) refl
     where
       go : (o : Option (Row V)) → row_at t k ≡ o → row_at (on_row t k ss o) k ≡ option_map (λ r. with_settings r ss) o
       go None e = e
       go (Some r) e = replaced_at t k r (with_settings r ss) e
 
-  pub given_other : (t : Table V) (j k : ℕ) (ss : List (Setting V)) → eqb j k ≡ false → row_at (given t j ss) k ≡ row_at t k
+  pub given_other : (t : Table V) (j k : ℕ) (ss : List (Setting V)) → eqb j k ≡ false → row_at (with_settings_at t j ss) k ≡ row_at t k
   given_other t j k ss e = go (row_at t j)
     where
       go : (o : Option (Row V)) → row_at (on_row t j ss o) k ≡ row_at t k

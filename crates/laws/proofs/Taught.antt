@@ -1,5 +1,5 @@
 -- What a teach stores, and when, is what its captured values say.
-use Rattle.std.proofs.Common.{◌≡◌, ◌≤◌, Bool, true, false, cond, List, [], ◌∷◌, ◌++◌, ◌<ℤ◌, Some, None, Ok, Err, Option, Result, refl, sym, ap, ◌∙◌, subst, arith}
+use Rattle.std.proofs.Common.{◌≡◌, ℕ, ◌≤◌, Bool, true, false, cond, List, [], ◌∷◌, ◌++◌, ◌<ℤ◌, Some, None, Ok, Err, Option, Result, refl, sym, ap, ◌∙◌, subst, arith}
 use Rattle.std.specs.Option.{option_map}
 use Rattle.std.proofs.lemmas.Bool.{eq-eqb}
 use Rattle.std.proofs.lemmas.Int.{ints}
@@ -7,6 +7,7 @@ use Rattle.faults.specs.declared.Fault.{Fault}
 use Rattle.faults.specs.declared.Place.{Place}
 use Rattle.faults.specs.declared.Denial.TheVariants.{TeachRunning}
 use Rattle.faults.specs.Denials.{fault, then}
+use Rattle.keypad.specs.Operations.{opening_checked}
 use Rattle.kinds.specs.Meaning.{Meaning, under}
 use Rattle.channels.specs.declared.reading.Reading.{Reading}
 use Rattle.channels.specs.declared.reading.Reading.TheVariants.{Value}
@@ -21,7 +22,8 @@ use Rattle.teach.specs.declared.machine.Verdict.TheVariants.{Open, Fails, Stores
 use Rattle.teach.specs.declared.teaching.Teach.{Teach}
 use Rattle.teach.specs.declared.terms.Terms.{Terms}
 use Rattle.teach.specs.Machine.{Moved, moved, row_checked}
-use Rattle.teach.specs.Teaching.{is_idle, row_in, store_of, stepped, teach_state}
+use Rattle.teach.specs.Commands as Commands
+use Rattle.teach.specs.Teaching.{is_idle, named, row_in, stepped, store_of, teach_state}
 use Rattle.objects.specs.Writes.{with_settings}
 use Rattle.sensor.specs.declared.device.Device.{Device}
 use Rattle.sensor.specs.declared.sensor.Sensor.{Sensor}
@@ -29,7 +31,7 @@ use Rattle.sensor.specs.Calls.{Call, Act, Order, to_start, to_sample, to_show, t
 use Rattle.sensor.specs.Devices.{setpoint_setting, stored_settings}
 use Rattle.sensor.specs.Rules.{after, asked, blank, carried, checked, device_by, next}
 use Rattle.sensor.specs.Samples.{heard}
-use Rattle.laws.specs.Events.{command_by, command_of, resting, row_of, selected_of, value_of, verdict_of}
+use Rattle.laws.specs.Events.{command_by, accepted_command, resting, row_of, selected_of, value_of, verdict_of}
 use Rattle.laws.specs.Settings.{gives}
 use Rattle.laws.specs.Stores.{Purpose, captured, captured_since, captured_with, counting, captures, capturing, discards, held_in, setpoint_of, value_for, whole}
 use Rattle.laws.specs.Taught.{Evaluation, Says, StoresUnless, TaughtBy, TaughtFromCaptured, beginning, begun, begun_since, dynamic, evaluation_in, none, setpoint_in, single, step_in, taught, two_value}
@@ -84,7 +86,7 @@ module _ {V : Type 0} (m : Meaning V) where
   abbrev ToldIn : Option (Device V) → Sensor V → Call → (Purpose → List V) → Option Command → Type 0
   ToldIn None s c L b = verdict_of (checked m s c) ≡ Open
   ToldIn (Some d) s c L b =
-      Tells m d.terms (λ a b sp v. StoresUnless m (m.rank a <ℤ m.rank b) s c sp v) (verdict_of (checked m s c) ≡ Open) (setpoint_in b) (evaluation_in d.terms.capture (step_in b) (captures m whole s c ++ L whole) (value_of (checked m s c)) (step_in (command_of m s c))) (captures m whole s c ++ L whole) L
+      Tells m d.terms (λ a b sp v. StoresUnless m (m.rank a <ℤ m.rank b) s c sp v) (verdict_of (checked m s c) ≡ Open) (setpoint_in b) (evaluation_in d.terms.capture (step_in b) (captures m whole s c ++ L whole) (value_of (checked m s c)) (step_in (accepted_command m s c))) (captures m whole s c ++ L whole) L
 
 module _ {V : Type 0} (m : Meaning V) (d : Device V) (L : Purpose → List V) (b : Option Command) (h : HoldingIn m (Some d) L b) (sound : SoundDevice d) (c : Call) where
   abbrev at : Sensor V
@@ -130,12 +132,22 @@ module _ {V : Type 0} (m : Meaning V) (d : Device V) (L : Purpose → List V) (b
       rw i ((h.0, p.0, p.1), p.2)
   sample_kept r i e = rw i left
 
-  command_kept : (place : Place) (z : Command) (o : Option (Moved V)) → asked m d c ≡ Ok (to_command place z) → row_in m d.terms d.teach z ≡ o → checked m at c ≡ then (row_checked place o) (λ g. Ok (commands g)) → Kept (then (row_checked place o) (λ g. Ok (commands g)))
-  command_kept place z None i j e = left
-  command_kept place z (Some g) i j e =
+  command_kept : (place : Place) (code : ℕ) (z : Command) (o : Option (Moved V)) → asked m d c ≡ Ok (to_command place code) → Commands.command_of code ≡ Some z
+      → row_in m d.terms d.teach z ≡ o → checked m at c ≡ then (row_checked place o) (λ g. Ok (commands g)) → Kept (then (row_checked place o) (λ g. Ok (commands g)))
+  command_kept place code z None i k j e = left
+  command_kept place code z (Some g) i k j e =
       let owed = row_owed m U d.terms L b h.0 d.teach.flags d.teach.state z.step z h.1 h.2 in
       let p = each_at (RowOwed m U d.terms L b d.teach.state z) (row_in m d.terms d.teach z) g j owed (evaluates (Ok (commands g)) g e refl refl) in
-      rw i ((h.0, p.0, p.1), p.2)
+      rw (i, k) ((h.0, p.0, p.1), p.2)
+
+  -- what a command comes to, by the row of its code
+  abbrev coming : Place → Option Command → Result (Act V) Fault
+  coming place y = then (then (named place y) (λ z. row_checked place (row_in m d.terms d.teach z))) (λ g. Ok (commands g))
+
+  code_kept : (place : Place) (code : ℕ) (y : Option Command) → asked m d c ≡ Ok (to_command place code) → Commands.command_of code ≡ y
+      → checked m at c ≡ coming place y → Kept (coming place y)
+  code_kept place code None i k e = left
+  code_kept place code (Some z) i k e = command_kept place code z (row_in m d.terms d.teach z) i k refl e
 
   order_kept : (o : Result (Order V) Fault) → asked m d c ≡ o → checked m at c ≡ carried m d o → Kept (carried m d o)
   order_kept (Err f) i e = left
@@ -143,13 +155,13 @@ module _ {V : Type 0} (m : Meaning V) (d : Device V) (L : Purpose → List V) (b
   order_kept (Ok (to_sample r)) i e = sample_kept r i e
   order_kept (Ok (to_show x)) i e = rw i left
   order_kept (Ok (to_select k)) i e = rw i ((h.0, λ x. refl, (refl, refl)), quiet.2)
-  order_kept (Ok (to_command place z)) i e = command_kept place z (row_in m d.terms d.teach z) i refl e
+  order_kept (Ok (to_command place code)) i e = code_kept place code (Commands.command_of code) i refl e
   order_kept (Ok (to_write k ss)) i e = rw i left
-  order_kept (Ok to_open) i e = go (is_idle d.teach.state)
+  order_kept (Ok to_open) i e = go (opening_checked d.keypad (is_idle d.teach.state))
     where
-      go : (b : Bool) → Kept (cond b (Ok opens) (Err (fault TeachRunning)))
-      go true = rw i left
-      go false = left
+      go : (x : Result (Unit {0}) Fault) → Kept (then x (λ _. Ok opens))
+      go (Ok tt) = rw i left
+      go (Err f) = left
   order_kept (Ok to_close) i e = rw i left
   order_kept (Ok to_restart) i e = rw i ((h.0, λ x. refl, (refl, refl)), quiet.2)
 

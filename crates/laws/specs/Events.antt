@@ -6,6 +6,7 @@ use Rattle.channels.specs.declared.reading.Reading.{Reading}
 use Rattle.channels.specs.declared.reading.Reading.TheVariants.{Value}
 use Rattle.channels.specs.declared.row.Row.{Row}
 use Rattle.channels.specs.Table.{row_at}
+use Rattle.teach.specs.Commands as Commands
 use Rattle.teach.specs.declared.command.Command.{Command}
 use Rattle.teach.specs.declared.machine.Verdict.{Verdict}
 use Rattle.teach.specs.declared.machine.Verdict.TheVariants.{Open, Stores}
@@ -19,13 +20,13 @@ use Rattle.sensor.specs.Rules.{asked, checked}
 module _ {V : Type 0} where
   -- ---- a sensor
 
-  abbrev row_in : ℕ → Option (Device V) → Option (Row V)
-  row_in k None = None
-  row_in k (Some d) = row_at d.channels k
+  abbrev row_held : ℕ → Option (Device V) → Option (Row V)
+  row_held k None = None
+  row_held k (Some d) = row_at d.channels k
 
   -- the row of channel k; a blank sensor has none
   abbrev pub row_of : Sensor V → ℕ → Option (Row V)
-  row_of s k = row_in k s.device
+  row_of s k = row_held k s.device
 
   abbrev teach_in : Option (Device V) → Teach V
   teach_in None = idle
@@ -93,15 +94,15 @@ module _ {V : Type 0} where
   abbrev pub stores : Result (Act V) Fault → Bool
   stores x = is_stored (verdict_of x)
 
-  abbrev pub begins_by : Act V → Bool
-  begins_by (starts e) = true
-  begins_by restarts = true
-  begins_by a = false
+  abbrev pub starts_over_by : Act V → Bool
+  starts_over_by (starts e) = true
+  starts_over_by restarts = true
+  starts_over_by a = false
 
   -- the call is a warm restart, or an accepted set-up
-  abbrev pub begins : Result (Act V) Fault → Bool
-  begins (Ok a) = begins_by a
-  begins (Err f) = false
+  abbrev pub starts_over : Result (Act V) Fault → Bool
+  starts_over (Ok a) = starts_over_by a
+  starts_over (Err f) = false
 
   abbrev pub writes_by : ℕ → Act V → Bool
   writes_by k (writes j ss) = j == k
@@ -124,7 +125,7 @@ module _ {V : Type 0} where
 
   -- the command that is asked for
   abbrev pub command_in : Result (Order V) Fault → Option Command
-  command_in (Ok (to_command place z)) = Some z
+  command_in (Ok (to_command place code)) = Commands.command_of code
   command_in o = None
 
 module _ {V : Type 0} (m : Meaning V) where
@@ -134,5 +135,5 @@ module _ {V : Type 0} (m : Meaning V) where
   command_by o c x = None
 
   -- the command that an accepted call gives; none for other calls
-  abbrev pub command_of : Sensor V → Call → Option Command
-  command_of s c = command_by s.device c (checked m s c)
+  abbrev pub accepted_command : Sensor V → Call → Option Command
+  accepted_command s c = command_by s.device c (checked m s c)

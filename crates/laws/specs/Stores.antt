@@ -15,7 +15,7 @@ use Rattle.teach.specs.declared.machine.Verdict.TheVariants.{Stores}
 use Rattle.sensor.specs.declared.sensor.Sensor.{Sensor}
 use Rattle.sensor.specs.Calls.{Call}
 use Rattle.sensor.specs.Rules.{after, blank, checked, next}
-use Rattle.laws.specs.Events.{command_of, resting, row_of, selected_of, teach_of, value_of, verdict_of}
+use Rattle.laws.specs.Events.{accepted_command, resting, row_of, selected_of, teach_of, value_of, verdict_of}
 
 -- what a value is captured for: the setpoint itself, or one of its teachpoints
 pub data Purpose : Type 0 where
@@ -70,9 +70,10 @@ module _ {V : Type 0} (m : Meaning V) where
   abbrev pub captures : Purpose → Sensor V → Call → List V
   captures x s c = value_for x (capturing (teach_of s).state) (value_of (checked m s c))
 
-  -- what counts for x after the call, of vs that counted before it: nothing at rest, and of vs nothing that is discarded
+  -- what counts for x after the call, of vs that counted before it: nothing at rest, and of vs nothing that is
+  -- discarded
   abbrev pub counting : Purpose → Sensor V → Call → List V → List V
-  counting x s c vs = cond (resting (next m s c)) [] (captures x s c ++ cond (discards x (command_of m s c)) [] vs)
+  counting x s c vs = cond (resting (next m s c)) [] (captures x s c ++ cond (discards x (accepted_command m s c)) [] vs)
 
   -- the values captured for x in the teach that runs after the calls, where vs counted before them; the latest first
   abbrev pub captured_since : Purpose → Sensor V → List Call → List V → List V

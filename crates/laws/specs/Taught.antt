@@ -13,7 +13,7 @@ use Rattle.sensor.specs.declared.device.Device.{Device}
 use Rattle.sensor.specs.declared.sensor.Sensor.{Sensor}
 use Rattle.sensor.specs.Calls.{Call}
 use Rattle.sensor.specs.Rules.{after, blank, checked, next}
-use Rattle.laws.specs.Events.{command_of, resting, row_of, selected_of, teach_of, value_of, verdict_of}
+use Rattle.laws.specs.Events.{accepted_command, resting, row_of, selected_of, teach_of, value_of, verdict_of}
 use Rattle.laws.specs.Stores.{captured, captured_with, held_in, point, whole}
 
 -- the evaluation that a call makes, if it makes one
@@ -36,8 +36,8 @@ OfTaught None P = ⊥
 OfTaught (Some sp) P = P sp
 
 module _ {V : Type 0} where
-  -- the evaluation by a call, where vs are the values captured with what it brings: single by the value that makes them C, in a
-  -- teach that a Single began; two value by an accepted Apply; dynamic by an accepted Stop
+  -- the evaluation by a call, where vs are the values captured with what it brings: single by the value that makes them
+  -- C, in a teach that a Single began; two value by an accepted Apply; dynamic by an accepted Stop
   abbrev pub evaluation_in : ℕ → Option Step → List V → Option V → Option Step → Evaluation
   evaluation_in capture (Some Single) vs (Some v) step = cond (length vs == capture) single none
   evaluation_in capture began vs value (Some Apply) = two_value
@@ -59,10 +59,10 @@ module _ {V : Type 0} (m : Meaning V) where
   OfExtremes [] P = ⊥
   OfExtremes (v ∷ vs) P = P (lowest v vs) (highest v vs)
 
-  -- the command that began the teach that runs after the call, where o began the one that runs before it: none at rest, and the
-  -- accepted command of the call by which the teach leaves rest
+  -- the command that began the teach that runs after the call, where o began the one that runs before it: none at rest,
+  -- and the accepted command of the call by which the teach leaves rest
   abbrev pub beginning : Sensor V → Call → Option Command → Option Command
-  beginning s c o = cond (resting (next m s c)) None (cond (resting s) (command_of m s c) o)
+  beginning s c o = cond (resting (next m s c)) None (cond (resting s) (accepted_command m s c) o)
 
   -- the command that began the teach that runs after the calls, where o began the one that runs before them
   abbrev pub begun_since : Sensor V → List Call → Option Command → Option Command
@@ -77,17 +77,23 @@ module _ {V : Type 0} (m : Meaning V) where
   abbrev pub taught : List Call → Option Setpoint
   taught cs = setpoint_in (begun cs)
 
-  -- a call stores v as the setpoint sp of the selected channel, unless the evaluation fails: then nothing is stored, and
-  -- TeachState is 7
+  -- a call stores v as the setpoint sp of the selected channel, unless the evaluation fails: then nothing is stored,
+  -- and TeachState is 7
   pub record StoresUnless (Failing : Type 0) (s : Sensor V) (c : Call) (sp : Setpoint) (v : V) : Type 0 where
-    pub stores : (Failing → ⊥) → (verdict_of (checked m s c) ≡ Stores sp v) × (held_in sp (row_of (next m s c) (selected_of s)) ≡ Some v)
-    pub fails : Failing → (verdict_of (checked m s c) ≡ Fails) × (teach_state (teach_of (next m s c)) (teach_of (next m s c)).state ≡ 7)
+    pub stores :
+        (Failing → ⊥)
+        → (verdict_of (checked m s c) ≡ Stores sp v) × (held_in sp (row_of (next m s c) (selected_of s)) ≡ Some v)
+    pub fails :
+        Failing
+        → (verdict_of (checked m s c) ≡ Fails)
+        × (teach_state (teach_of (next m s c)) (teach_of (next m s c)).state ≡ 7)
 
-  -- a single teach stores the middle of the lowest and the highest of the C values, unless the highest is above the lowest raised
-  -- by S
+  -- a single teach stores the middle of the lowest and the highest of the C values, unless the highest is above the
+  -- lowest raised by S
   abbrev pub SingleSays : Terms → Sensor V → Call → Setpoint → List V → Type 0
   SingleSays t s c sp vs =
-      OfExtremes vs (λ low high. StoresUnless (m.rank (m.raised low t.spread) <ℤ m.rank high) s c sp (m.middle low high))
+      OfExtremes vs
+      (λ low high. StoresUnless (m.rank (m.raised low t.spread) <ℤ m.rank high) s c sp (m.middle low high))
 
   -- a two value teach stores the middle of the two teachpoints, unless the higher is below the lower raised by D
   abbrev pub PointsSay : Terms → Sensor V → Call → Setpoint → V → V → Type 0
@@ -99,13 +105,15 @@ module _ {V : Type 0} (m : Meaning V) where
   TwoSay t s c sp vs ws =
       (length vs ≡ t.capture)
       × (length ws ≡ t.capture)
-      × OfExtremes vs (λ low high. OfExtremes ws (λ low' high'. PointsSay t s c sp (m.middle low high) (m.middle low' high')))
+      × OfExtremes vs
+      (λ low high. OfExtremes ws (λ low' high'. PointsSay t s c sp (m.middle low high) (m.middle low' high')))
 
-  -- a dynamic teach stores the middle of the lowest and the highest captured since the last accepted Start, unless the highest is
-  -- below the lowest raised by D
+  -- a dynamic teach stores the middle of the lowest and the highest captured since the last accepted Start, unless the
+  -- highest is below the lowest raised by D
   abbrev pub DynamicSays : Terms → Sensor V → Call → Setpoint → List V → Type 0
   DynamicSays t s c sp vs =
-      OfExtremes vs (λ low high. StoresUnless (m.rank high <ℤ m.rank (m.raised low t.distance)) s c sp (m.middle low high))
+      OfExtremes vs
+      (λ low high. StoresUnless (m.rank high <ℤ m.rank (m.raised low t.distance)) s c sp (m.middle low high))
 
   -- what a call c stores after the calls `before`, by the evaluation that it makes: no other call stores
   abbrev pub Says : Terms → Evaluation → List Call → Call → Type 0
@@ -113,7 +121,8 @@ module _ {V : Type 0} (m : Meaning V) where
   Says t single before c =
       OfTaught (taught before) (λ sp. SingleSays t (after m blank before) c sp (captured_with m whole before c))
   Says t two_value before c =
-      OfTaught (taught before) (λ sp. TwoSay t (after m blank before) c sp (captured m (point Tp1) before) (captured m (point Tp2) before))
+      OfTaught (taught before)
+      (λ sp. TwoSay t (after m blank before) c sp (captured m (point Tp1) before) (captured m (point Tp2) before))
   Says t dynamic before c =
       OfTaught (taught before) (λ sp. DynamicSays t (after m blank before) c sp (captured m whole before))
 
@@ -121,7 +130,8 @@ module _ {V : Type 0} (m : Meaning V) where
   abbrev pub evaluation_of : Terms → List Call → Call → Evaluation
   evaluation_of t before c =
       let s = after m blank before in
-      evaluation_in t.capture (step_in (begun before)) (captured_with m whole before c) (value_of (checked m s c)) (step_in (command_of m s c))
+      evaluation_in t.capture (step_in (begun before)) (captured_with m whole before c) (value_of (checked m s c))
+      (step_in (accepted_command m s c))
 
   -- what the call stores is what the captured values say; a blank sensor stores nothing
   abbrev pub TaughtBy : Option (Device V) → List Call → Call → Type 0

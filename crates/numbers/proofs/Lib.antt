@@ -1,7 +1,6 @@
 pub mod Fractions
 pub mod Middle
 pub mod Moves
-pub mod Octets
 pub mod Options
 pub mod Order
 pub mod Patterns

@@ -5,7 +5,7 @@ use Rattle.std.specs.Float.Ieee.{Float, nan, inf, fin, binary32, mul, le, eq, to
 use Rattle.std.specs.Float.Ieee.Fits.{add-fits}
 use Rattle.std.specs.Float.Ieee.Scale.{finite}
 use Rattle.std.specs.Float.Ieee.Bits.{of_bits-to_bits}
-use Rattle.numbers.specs.Floats.{rank, proper, zero_float, plain, between, lower_of, higher_of, half, halves, middle}
+use Rattle.numbers.specs.Floats.{rank, proper, zero_float, plain, between, lesser, greater, half, halves, middle}
 use Rattle.numbers.proofs.Moves.{worth_fixes}
 use Rattle.numbers.proofs.Order.{le_worth, le_rank, zero_worth}
 use Rattle.numbers.proofs.Signs.{at_most, at_least}
@@ -95,28 +95,28 @@ module _ (x y : Float) (h : proper x ≡ true) (k : proper y ≡ true) where
   sum_fits : T (fits binary32 (halves x y))
   sum_fits = add-fits binary32 (mul binary32 x half) (mul binary32 y half)
 
-  inside : Finite (between (halves x y) (lower_of x y) (higher_of x y))
-  inside = let e = ends (le x y) refl in between_finite (halves x y) (lower_of x y) (higher_of x y) sum_fits e.0 e.1
+  inside : Finite (between (halves x y) (lesser x y) (greater x y))
+  inside = let e = ends (le x y) refl in between_finite (halves x y) (lesser x y) (greater x y) sum_fits e.0 e.1
 
   pub middle_proper : proper (middle x y) ≡ true
-  middle_proper = plain_proper (between (halves x y) (lower_of x y) (higher_of x y)) inside
+  middle_proper = plain_proper (between (halves x y) (lesser x y) (greater x y)) inside
 
-  middle_worth : worth (middle x y) ≡ worth (between (halves x y) (lower_of x y) (higher_of x y))
-  middle_worth = plain_worth (between (halves x y) (lower_of x y) (higher_of x y)) inside
+  middle_worth : worth (middle x y) ≡ worth (between (halves x y) (lesser x y) (greater x y))
+  middle_worth = plain_worth (between (halves x y) (lesser x y) (greater x y)) inside
 
-  pub middle_above : rank (lower_of x y) ≤ℤ rank (middle x y)
+  pub middle_above : rank (lesser x y) ≤ℤ rank (middle x y)
   middle_above =
       let e = ends (le x y) refl in
-      rank_from_worth (lower_of x y) (middle x y) (subst (λ (z : ℤ). worth (lower_of x y) ≤ℤ z) (sym middle_worth) (between_worth (halves x y) (lower_of x y) (higher_of x y) sum_fits e.0 e.1 e.2).0)
+      rank_from_worth (lesser x y) (middle x y) (subst (λ (z : ℤ). worth (lesser x y) ≤ℤ z) (sym middle_worth) (between_worth (halves x y) (lesser x y) (greater x y) sum_fits e.0 e.1 e.2).0)
 
-  pub middle_under : rank (middle x y) ≤ℤ rank (higher_of x y)
+  pub middle_under : rank (middle x y) ≤ℤ rank (greater x y)
   middle_under =
       let e = ends (le x y) refl in
-      rank_from_worth (middle x y) (higher_of x y) (subst (λ (z : ℤ). z ≤ℤ worth (higher_of x y)) (sym middle_worth) (between_worth (halves x y) (lower_of x y) (higher_of x y) sum_fits e.0 e.1 e.2).1)
+      rank_from_worth (middle x y) (greater x y) (subst (λ (z : ℤ). z ≤ℤ worth (greater x y)) (sym middle_worth) (between_worth (halves x y) (lesser x y) (greater x y) sum_fits e.0 e.1 e.2).1)
 
   -- the same ends, by ranks
-  pub lower_is : (t : Bool) → le_z (rank x) (rank y) ≡ t → lower_of x y ≡ cond t x y
+  pub lower_is : (t : Bool) → le_z (rank x) (rank y) ≡ t → lesser x y ≡ cond t x y
   lower_is t e = ap (λ (b : Bool). cond b x y) (le_rank x y h k ∙ e)
 
-  pub higher_is : (t : Bool) → le_z (rank x) (rank y) ≡ t → higher_of x y ≡ cond t y x
+  pub higher_is : (t : Bool) → le_z (rank x) (rank y) ≡ t → greater x y ≡ cond t y x
   higher_is t e = ap (λ (b : Bool). cond b y x) (le_rank x y h k ∙ e)

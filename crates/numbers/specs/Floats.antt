@@ -1,5 +1,6 @@
 -- Floats of 32 bits: which of them are values, how they are ordered, and how they are moved.
-use Rattle.std.specs.Prelude.{ℕ, ◌%◌, ◌^◌, ◌<◌, min, Bool, true, false, cond, not, ◌&&◌, ℤ, pos, neg_ℤ, ◌==◌, from_bits, nat_le, to_bits, Float}
+use Rattle.std.specs.Prelude.{ℕ, ◌%◌, ◌^◌, ◌<◌, min, Bool, true, false, cond, not, ◌&&◌, ℤ, pos, neg_ℤ, ◌==◌}
+use Rattle.std.specs.Prelude.{from_bits, nat_le, to_bits, Float}
 use Rattle.std.specs.Float.{binary32}
 use Rattle.std.specs.Float.Ieee.{add, mul, le, eq, of_int, fits}
 use Rattle.std.specs.Float.Ieee.Exact.{HasValue}
@@ -44,11 +45,11 @@ abbrev pub ExactDistances : Type 0
 ExactDistances = (n : ℕ) → n < 2 ^ 16 → HasValue (distance n) false n 1024
 
 -- the lower and the higher of two
-abbrev pub lower_of : Float → Float → Float
-lower_of x y = cond (le x y) x y
+abbrev pub lesser : Float → Float → Float
+lesser x y = cond (le x y) x y
 
-abbrev pub higher_of : Float → Float → Float
-higher_of x y = cond (le x y) y x
+abbrev pub greater : Float → Float → Float
+greater x y = cond (le x y) y x
 
 -- x where it lies between low and high, else the end that it is beyond
 abbrev pub between : Float → Float → Float → Float
@@ -63,4 +64,4 @@ halves x y = add binary32 (mul binary32 x half) (mul binary32 y half)
 
 -- the middle of two: that sum, brought between them
 abbrev pub middle : Float → Float → Float
-middle x y = plain (between (halves x y) (lower_of x y) (higher_of x y))
+middle x y = plain (between (halves x y) (lesser x y) (greater x y))

@@ -5,7 +5,8 @@ use Rattle.faults.specs.declared.Fault.{Fault}
 use Rattle.objects.specs.declared.access.Access.{Access}
 use Rattle.objects.specs.declared.access.Access.TheVariants.{Read, Write}
 use Rattle.objects.specs.declared.access.Content.{Content}
-use Rattle.objects.specs.declared.access.Content.TheVariants.{Setpoints, Sp1, Sp2, Configuration, Logic, Mode, Hysteresis}
+use Rattle.objects.specs.declared.access.Content.TheVariants.{Setpoints, Sp1, Sp2}
+use Rattle.objects.specs.declared.access.Content.TheVariants.{Configuration, Logic, Mode, Hysteresis}
 use Rattle.objects.specs.declared.access.Written.{Written}
 use Rattle.objects.specs.declared.access.Written.TheVariants.{Command, Select, Channel}
 

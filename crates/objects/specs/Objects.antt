@@ -1,11 +1,14 @@
 -- What a request may reach, by index and subindex, and what it asks for there.
-use Rattle.std.specs.Prelude.{◌≡◌, ℕ, ◌+◌, ◌-◌, ◌*◌, ◌/◌, ◌%◌, Bool, true, cond, ◌&&◌, List, length, take, drop, is_some, Some, None, Ok, Err, Option, Result, ◌==◌, nat_le, nat_lt, slice_index}
+use Rattle.std.specs.Prelude.{◌≡◌, ℕ, ◌-◌, ◌/◌, ◌%◌, Bool, true, cond, ◌&&◌, List, length, take, drop}
+use Rattle.std.specs.Prelude.{is_some, Some, None, Ok, Err, Option, Result, ◌==◌, nat_le, nat_lt, slice_index}
 use Rattle.faults.specs.declared.Fault.{Fault}
 use Rattle.faults.specs.declared.Place.{Place}
-use Rattle.faults.specs.declared.Denial.TheVariants.{NoIndex, NoSubindex, WrongDirection, DataTooLong, DataTooShort, WriteUnderKeypad}
+use Rattle.faults.specs.declared.Denial.TheVariants.{NoIndex, NoSubindex, WrongDirection}
+use Rattle.faults.specs.declared.Denial.TheVariants.{DataTooLong, DataTooShort, WriteUnderKeypad}
 use Rattle.faults.specs.Denials.{fault_at, then}
 use Rattle.isdu.specs.declared.Direction.{Direction}
 use Rattle.isdu.specs.Requests.{Asked}
+use Rattle.octets.specs.Numbers.{two_number}
 use Rattle.kinds.specs.Meaning.{Meaning}
 use Rattle.channels.specs.declared.table.Table.{Table}
 use Rattle.channels.specs.Table.{has_channel, row_at}
@@ -16,7 +19,8 @@ use Rattle.objects.specs.declared.access.Shown.{Shown}
 use Rattle.objects.specs.declared.access.Written.{Written}
 use Rattle.objects.specs.declared.object.Item.{Item}
 use Rattle.objects.specs.declared.object.Object.{Object}
-use Rattle.objects.specs.declared.object.Object.TheVariants.{SystemCommand, TeachSelect, TeachResult, Setpoints, Configuration}
+use Rattle.objects.specs.declared.object.Object.TheVariants.{SystemCommand, TeachSelect, TeachResult}
+use Rattle.objects.specs.declared.object.Object.TheVariants.{Setpoints, Configuration}
 use Rattle.objects.specs.declared.part.Part.{Part}
 use Rattle.objects.specs.Parts.{configuration_part, part_length, setpoints_part}
 
@@ -29,7 +33,9 @@ from_to first last n = nat_le first n && nat_le n last
 -- the channel that an index belongs to: 60 and 61 are channel 1's, 62 and 63 channel 2's,
 -- 0x4000 + 2(k-3) and the next channel k's, for k from 3 to 8; every other index belongs to none
 abbrev pub channel_of : ℕ → Option ℕ
-channel_of i = cond (from_to 60 63 i) (Some ((i - 58) / 2)) (cond (from_to 0x4000 0x400b i) (Some ((i - 0x3ffa) / 2)) None)
+channel_of i =
+    cond (from_to 60 63 i) (Some ((i - 58) / 2))
+    (cond (from_to 0x4000 0x400b i) (Some ((i - 0x3ffa) / 2)) None)
 
 -- a channel's first index is its setpoints, the next its configuration
 abbrev pub of_channel : ℕ → ℕ → Object
@@ -66,20 +72,17 @@ item_at (Configuration k) n = on_channel k (configuration_part n)
 
 -- ---- what a write brings, its octets in their number
 
--- the high octet of a hysteresis first
-abbrev pub hysteresis_of : ℕ → ℕ → ℕ
-hysteresis_of high low = 256 * high + low
-
--- SP1 and then SP2, of w octets each; logic, mode and hysteresis
+-- SP1 and then SP2, of w octets each; logic, mode and hysteresis, of two octets
 abbrev pub content_of : ℕ → Part → List ℕ → Content (List ℕ)
 content_of w Part.Setpoints octets = Content.Setpoints (take w octets) (drop w octets)
 content_of w Part.Sp1 octets = Content.Sp1 octets
 content_of w Part.Sp2 octets = Content.Sp2 octets
 content_of w Part.Configuration octets =
-    Content.Configuration (slice_index octets 0) (slice_index octets 1) (hysteresis_of (slice_index octets 2) (slice_index octets 3))
+    Content.Configuration (slice_index octets 0) (slice_index octets 1)
+    (two_number (slice_index octets 2) (slice_index octets 3))
 content_of w Part.Logic octets = Content.Logic (slice_index octets 0)
 content_of w Part.Mode octets = Content.Mode (slice_index octets 0)
-content_of w Part.Hysteresis octets = Content.Hysteresis (hysteresis_of (slice_index octets 0) (slice_index octets 1))
+content_of w Part.Hysteresis octets = Content.Hysteresis (two_number (slice_index octets 0) (slice_index octets 1))
 
 -- ---- the checks of an access
 
@@ -117,8 +120,10 @@ data_checked keypad a n =
 module _ {V : Type 0} (m : Meaning V) where
   -- 13: TeachResult is only read. Then 14 and 15 by the number of octets, and 16
   abbrev pub write_checked : Bool → Asked → Item → Result (Written (List ℕ)) Fault
-  write_checked keypad a Item.SystemCommand = then (data_checked keypad a 1) (λ _. Ok (Written.Command (slice_index a.octets 0)))
-  write_checked keypad a Item.TeachSelect = then (data_checked keypad a 1) (λ _. Ok (Written.Select (slice_index a.octets 0)))
+  write_checked keypad a Item.SystemCommand =
+      then (data_checked keypad a 1) (λ _. Ok (Written.Command (slice_index a.octets 0)))
+  write_checked keypad a Item.TeachSelect =
+      then (data_checked keypad a 1) (λ _. Ok (Written.Select (slice_index a.octets 0)))
   write_checked keypad a Item.TeachResult = Err (fault_at WrongDirection (place_of a))
   write_checked keypad a (Item.Channel k p) =
       then (data_checked keypad a (part_length m.width p)) (λ _. Ok (Written.Channel k (content_of m.width p a.octets)))

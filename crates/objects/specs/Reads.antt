@@ -1,5 +1,6 @@
 -- What a read shows of a channel.
-use Rattle.std.specs.Prelude.{ℕ, ◌/◌, ◌%◌, ◌≤◌, List, [], ◌∷◌, ◌++◌, length, Some, None, Option}
+use Rattle.std.specs.Prelude.{ℕ, ◌≤◌, List, [], ◌∷◌, ◌++◌, length, Some, None, Option}
+use Rattle.octets.specs.Numbers.{two_octets}
 use Rattle.kinds.specs.Meaning.{Meaning}
 use Rattle.channels.specs.declared.row.Row.{Row}
 use Rattle.objects.specs.declared.part.Part.{Part}
@@ -9,20 +10,16 @@ use Rattle.objects.specs.declared.part.Part.TheVariants.{Setpoints, Sp1, Sp2, Co
 abbrev pub OneToEight : List ℕ → Type 0
 OneToEight octets = (1 ≤ length octets) × (length octets ≤ 8)
 
--- the high octet of a hysteresis first
-abbrev pub hysteresis_octets : ℕ → List ℕ
-hysteresis_octets h = h / 256 ∷ h % 256 ∷ []
-
 module _ {V : Type 0} where
   -- the octets of a part of a row
   abbrev pub part_read : Meaning V → Part → Row V → List ℕ
   part_read m Setpoints r = m.octets r.sp1 ++ m.octets r.sp2
   part_read m Sp1 r = m.octets r.sp1
   part_read m Sp2 r = m.octets r.sp2
-  part_read m Configuration r = r.logic ∷ r.mode ∷ hysteresis_octets r.hysteresis
+  part_read m Configuration r = r.logic ∷ r.mode ∷ two_octets r.hysteresis
   part_read m Logic r = r.logic ∷ []
   part_read m Mode r = r.mode ∷ []
-  part_read m Hysteresis r = hysteresis_octets r.hysteresis
+  part_read m Hysteresis r = two_octets r.hysteresis
 
   -- a channel that is not there shows nothing
   abbrev pub row_read : (Row V → List ℕ) → Option (Row V) → List ℕ

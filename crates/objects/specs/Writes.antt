@@ -7,8 +7,10 @@ use Rattle.faults.specs.Denials.{fault_at, then}
 use Rattle.kinds.specs.Meaning.{Meaning, under}
 use Rattle.channels.specs.declared.range.Range.{Range}
 use Rattle.channels.specs.declared.row.Row.{Row}
+use Rattle.channels.specs.Judging.{inverted, two_point}
 use Rattle.objects.specs.declared.access.Content.{Content}
-use Rattle.objects.specs.declared.access.Content.TheVariants.{Setpoints, Sp1, Sp2, Configuration, Logic, Mode, Hysteresis}
+use Rattle.objects.specs.declared.access.Content.TheVariants.{Setpoints, Sp1, Sp2}
+use Rattle.objects.specs.declared.access.Content.TheVariants.{Configuration, Logic, Mode, Hysteresis}
 use Rattle.objects.specs.declared.part.Part.TheVariants as Part
 use Rattle.objects.specs.Parts.{place_at}
 
@@ -21,12 +23,12 @@ pub data Setting (V : Type 0) : Type 0 where
 abbrev pub code_checked : Place → ℕ → ℕ → Result ℕ Fault
 code_checked place last code = cond (nat_lt last code) (Err (fault_at NoValue place)) (Ok code)
 
--- logic is 0 or 1, mode 0 to 3
+-- the last code of logic, and of mode
 abbrev pub last_logic : ℕ
-last_logic = 1
+last_logic = inverted
 
 abbrev pub last_mode : ℕ
-last_mode = 3
+last_mode = two_point
 
 module _ {V : Type 0} (m : Meaning V) (range : Range V) where
   -- 17: no value of the kind. 18: above the range. 19: below it
@@ -46,14 +48,18 @@ module _ {V : Type 0} (m : Meaning V) (range : Range V) where
       then (setpoint_checked (place_at index Part.Sp1) a) (λ v.
       then (setpoint_checked (place_at index Part.Sp2) b) (λ w.
       Ok (sets_sp1 v ∷ sets_sp2 w ∷ [])))
-  settings_checked index (Sp1 octets) = then (setpoint_checked (place_at index Part.Sp1) octets) (λ v. Ok (sets_sp1 v ∷ []))
-  settings_checked index (Sp2 octets) = then (setpoint_checked (place_at index Part.Sp2) octets) (λ v. Ok (sets_sp2 v ∷ []))
+  settings_checked index (Sp1 octets) =
+      then (setpoint_checked (place_at index Part.Sp1) octets) (λ v. Ok (sets_sp1 v ∷ []))
+  settings_checked index (Sp2 octets) =
+      then (setpoint_checked (place_at index Part.Sp2) octets) (λ v. Ok (sets_sp2 v ∷ []))
   settings_checked index (Configuration logic mode hysteresis) =
       then (code_checked (place_at index Part.Logic) last_logic logic) (λ l.
       then (code_checked (place_at index Part.Mode) last_mode mode) (λ md.
       Ok (sets_logic l ∷ sets_mode md ∷ sets_hysteresis hysteresis ∷ [])))
-  settings_checked index (Logic code) = then (code_checked (place_at index Part.Logic) last_logic code) (λ l. Ok (sets_logic l ∷ []))
-  settings_checked index (Mode code) = then (code_checked (place_at index Part.Mode) last_mode code) (λ md. Ok (sets_mode md ∷ []))
+  settings_checked index (Logic code) =
+      then (code_checked (place_at index Part.Logic) last_logic code) (λ l. Ok (sets_logic l ∷ []))
+  settings_checked index (Mode code) =
+      then (code_checked (place_at index Part.Mode) last_mode code) (λ md. Ok (sets_mode md ∷ []))
   settings_checked index (Hysteresis steps) = Ok (sets_hysteresis steps ∷ [])
 
 module _ {V : Type 0} where

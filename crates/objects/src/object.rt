@@ -3,25 +3,31 @@ ghost use Rattle.objects.specs.Objects.{ItemHasRow, ObjectHasRow, channel_of, it
 ghost use Rattle.std.specs.Prelude.{◌≡◌, IfSome};
 
 use super::part::Part;
-use channels::table::Table;
-use kinds::kind::Kind;
+use channels::Table;
+use kinds::Kind;
 
+/// The object at an index.
 #[derive(Clone, Copy)]
 pub enum Object {
+    /// Index 2: takes the code of a teach command.
     SystemCommand,
+    /// Index 58: the selected channel.
     TeachSelect,
+    /// Index 59.
     TeachResult,
-    // The setpoints and the configuration of a channel, counted from 1.
+    /// The setpoints of a channel, counted from 1: index 60 for channel 1.
     Setpoints(u8),
+    /// The configuration of a channel, counted from 1: index 61 for channel 1.
     Configuration(u8),
 }
 
-// What is read or written at once: an object that has no parts, or a part of a channel.
+/// What is read or written at once: an object that has no parts, or a part of a channel.
 #[derive(Clone, Copy)]
 pub enum Item {
     SystemCommand,
     TeachSelect,
     TeachResult,
+    /// The channel, counted from 1, and its part.
     Channel(u8, Part),
 }
 

@@ -4,15 +4,22 @@ ghost use Rattle.std.specs.Prelude.{◌≡◌, ◌≤◌};
 
 use faults::Place;
 
-// What of a channel is read or written at once: both setpoints or one of them, the whole configuration or a part of it.
+/// What of a channel is read or written at once: both setpoints or one, the whole configuration or a part of it.
 #[derive(Clone, Copy)]
 pub enum Part {
+    /// SP1 then SP2: subindex 0 of the setpoints.
     Setpoints,
+    /// Subindex 1 of the setpoints, the kind's width in octets.
     Sp1,
+    /// Subindex 2 of the setpoints, the kind's width in octets.
     Sp2,
+    /// Logic, mode and hysteresis: subindex 0 of the configuration, 4 octets.
     Configuration,
+    /// Subindex 1 of the configuration, 1 octet.
     Logic,
+    /// Subindex 2 of the configuration, 1 octet.
     Mode,
+    /// Subindex 3 of the configuration, 2 octets, the high one first.
     Hysteresis,
 }
 

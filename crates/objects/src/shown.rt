@@ -4,12 +4,12 @@ ghost use Rattle.octets.specs.Buffers.{fitting, placed};
 ghost use Rattle.std.specs.Prelude.{◌≡◌, ◌++◌};
 
 use super::part::Part;
-use channels::row::Row;
-use kinds::kind::Kind;
+use channels::Row;
+use kinds::Kind;
 use octets::put;
 
-// Two values, one behind the other. Room is tested first, and the buffer not split by what each needs: without room for both
-// nothing is written.
+// Two values, one behind the other. Room is tested first, and the buffer not split by what each needs: without room for
+// both nothing is written.
 fn write_both<K: Kind>(a: K, b: K, out: &mut [u8]) -> Option<usize>
     ensures answer { result ≡ fitting (K.meaning.octets a ++ K.meaning.octets b) out.old }
     ensures buffer { out.new ≡ placed (K.meaning.octets a ++ K.meaning.octets b) out.old }
@@ -23,7 +23,8 @@ fn write_both<K: Kind>(a: K, b: K, out: &mut [u8]) -> Option<usize>
     Some(2 * width)
 }
 
-// Writes the octets of a part of a row to the front of `out`, and answers how many they are. Without room it writes nothing.
+/// Writes the octets of a part of a channel to the front of `out`, and answers how many they are: 00 02 00 05 is a
+/// configuration of logic 0, mode 2 and hysteresis 5. Without room it writes nothing and answers `None`.
 pub fn read_part<K: Kind>(row: Row<K>, part: Part, out: &mut [u8]) -> Option<usize>
     ensures answer { result ≡ fitting (part_read K.meaning part row) out.old }
     ensures buffer { out.new ≡ placed (part_read K.meaning part row) out.old }

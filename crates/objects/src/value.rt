@@ -5,10 +5,9 @@ ghost use Rattle.std.specs.Prelude.{◌≡◌};
 
 use super::access::Content;
 use super::part::Part;
-use channels::range::Range;
-use channels::row::Row;
+use channels::{Range, Row};
 use faults::{Denial, Fault, Place};
-use kinds::kind::Kind;
+use kinds::Kind;
 
 // The last code of logic, and of mode.
 const LAST_LOGIC: u8 = 1;
@@ -24,7 +23,8 @@ fn check_code(code: u8, last: u8, place: Place) -> Result<u8, Fault>
     Ok(code)
 }
 
-// A setpoint within the range.
+/// The setpoint of the octets. Denials, in this order and at the place handed in: 17 where they are no value of the
+/// kind, 18 where it is above the range, 19 where it is below. An end of the range is taken.
 pub fn check_setpoint<K: Kind>(octets: &[u8], range: Range<K>, place: Place) -> Result<K, Fault>
     ensures { result ≡ setpoint_checked K.meaning range place octets.now }
 {
@@ -38,7 +38,10 @@ pub fn check_setpoint<K: Kind>(octets: &[u8], range: Range<K>, place: Place) -> 
     Ok(v)
 }
 
-// The row with what a write brings. Each part is checked before the next, at its own place by the index of its object.
+/// The row with what a write brings; its other settings and its state stay. `index` is that of the object.
+///
+/// Each part is checked before the next, and a denial is at the part's own subindex: 17 where a setpoint's octets are
+/// no value of the kind, logic is over 1 or mode over 3; 18 where a setpoint is above the range; 19 where it is below.
 pub fn write_content<K: Kind>(
     row: &Row<K>,
     content: Content<&[u8]>,

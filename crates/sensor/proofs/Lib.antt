@@ -4,3 +4,4 @@ mod Reading
 mod Responses
 mod Sizes
 pub mod Starting
+mod Keypads

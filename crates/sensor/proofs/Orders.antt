@@ -7,17 +7,16 @@ use Rattle.faults.specs.Denials.{fault_at, then}
 use Rattle.kinds.specs.Meaning.{Meaning}
 use Rattle.channels.specs.declared.row.Row.{Row}
 use Rattle.channels.specs.Table.{row_at, with_row}
-use Rattle.teach.specs.declared.command.Command.{Command}
 use Rattle.teach.specs.declared.teaching.Store.{Store}
 use Rattle.teach.specs.declared.teaching.Teach.{Teach}
-use Rattle.teach.specs.Machine.{Moved, row_checked}
-use Rattle.teach.specs.Teaching.{known, row_in, store_by, teach_by}
+use Rattle.teach.specs.Machine.{Moved}
+use Rattle.teach.specs.Teaching.{commanded, store_by, teach_by}
 use Rattle.objects.specs.declared.access.Written.{Written}
 use Rattle.objects.specs.declared.access.Written.TheVariants.{Command as WrittenCommand, Select, Channel}
 use Rattle.objects.specs.Writes.{Setting, row_by, settings_checked, with_settings}
 use Rattle.sensor.specs.declared.device.Device.{Device}
 use Rattle.sensor.specs.Answers.{plain}
-use Rattle.sensor.specs.Calls.{Act, selects, commands, writes, to_command, to_select, to_write}
+use Rattle.sensor.specs.Calls.{Act, selects, commands, writes, to_select, to_write}
 use Rattle.sensor.specs.Devices.{on_row, stored, with_channels}
 use Rattle.sensor.specs.Requests.{past_count, write_asked}
 use Rattle.sensor.specs.Rules.{carried, device_by}
@@ -38,37 +37,21 @@ module _ {V : Type 0} where
   plain_denied (Ok a) f h = cc
   plain_denied (Err e) f h = cc
 
-module _ {V : Type 0} (m : Meaning V) (d : Device V) (place : Place) where
+module _ {V : Type 0} (m : Meaning V) (d : Device V) where
   -- ---- commands
 
-  abbrev machine : Result Command Fault → Result (Moved V) Fault
-  machine k = then k (λ c. row_checked place (row_in m d.terms d.teach c))
+  abbrev by_command : Result (Moved V) Fault → Result (Act V) Fault
+  by_command x = then x (λ y. Ok (commands y))
 
-  abbrev by_command : Result Command Fault → Result (Act V) Fault
-  by_command k = carried m d (then k (λ c. Ok (to_command place c)))
-
-  abbrev by_row : Option (Moved V) → Result (Act V) Fault
-  by_row o = then (row_checked place o) (λ x. Ok (commands x))
-
-  row_denied : (o : Option (Moved V)) (f : Fault) → Err f ≡ store_by (row_checked place o)
-      → (Err f ≡ plain (by_row o)) × (with_teach d (teach_by d.teach (row_checked place o)) ≡ device_by m d (by_row o))
-  row_denied None f h = (cc, refl)
-  row_denied (Some x) f h = cc
-
-  row_taken : (o : Option (Moved V)) (s : Option (Store V)) → Ok s ≡ store_by (row_checked place o)
-      → (Ok tt ≡ plain (by_row o)) × (with_channels (with_teach d (teach_by d.teach (row_checked place o))) (stored d.channels d.selected s) ≡ device_by m d (by_row o))
-  row_taken None s h = cc
-  row_taken (Some x) s h = (refl, ap (λ y. with_channels (with_teach d (teach_by d.teach (Ok x))) (stored d.channels d.selected y)) cc)
-
-  pub command_denied : (k : Result Command Fault) (f : Fault) → Err f ≡ store_by (machine k)
-      → (Err f ≡ plain (by_command k)) × (with_teach d (teach_by d.teach (machine k)) ≡ device_by m d (by_command k))
+  pub command_denied : (x : Result (Moved V) Fault) (f : Fault) → Err f ≡ store_by x
+      → (Err f ≡ plain (by_command x)) × (with_teach d (teach_by d.teach x) ≡ device_by m d (by_command x))
   command_denied (Err e) f h = (cc, refl)
-  command_denied (Ok c) f h = row_denied (row_in m d.terms d.teach c) f h
+  command_denied (Ok x) f h = cc
 
-  pub command_taken : (k : Result Command Fault) (s : Option (Store V)) → Ok s ≡ store_by (machine k)
-      → (Ok tt ≡ plain (by_command k)) × (with_channels (with_teach d (teach_by d.teach (machine k))) (stored d.channels d.selected s) ≡ device_by m d (by_command k))
+  pub command_taken : (x : Result (Moved V) Fault) (s : Option (Store V)) → Ok s ≡ store_by x
+      → (Ok tt ≡ plain (by_command x)) × (with_channels (with_teach d (teach_by d.teach x)) (stored d.channels d.selected s) ≡ device_by m d (by_command x))
   command_taken (Err e) s h = cc
-  command_taken (Ok c) s h = row_taken (row_in m d.terms d.teach c) s h
+  command_taken (Ok x) s h = (refl, ap (λ y. with_channels (with_teach d (teach_by d.teach (Ok x))) (stored d.channels d.selected y)) cc)
 
 module _ {V : Type 0} (m : Meaning V) (d : Device V) (k : ℕ) where
   -- ---- settings
@@ -91,13 +74,9 @@ module _ {V : Type 0} (m : Meaning V) (d : Device V) (k : ℕ) where
 module _ {V : Type 0} (m : Meaning V) (d : Device V) (place : Place) where
   -- ---- what a write comes to
 
-  row_writes : (o : Option (Moved V)) → IfOk (then (row_checked place o) (λ x. Ok (commands x))) Writing
-  row_writes None = tt
-  row_writes (Some x) = tt
-
-  command_writes : (k : Result Command Fault) → IfOk (carried m d (then k (λ c. Ok (to_command place c)))) Writing
+  command_writes : (x : Result (Moved V) Fault) → IfOk (then x (λ y. Ok (commands y))) Writing
   command_writes (Err e) = tt
-  command_writes (Ok c) = row_writes (row_in m d.terms d.teach c)
+  command_writes (Ok x) = tt
 
   select_writes : (b : Bool) (n : ℕ) → IfOk (carried m d (cond b (Err (fault_at NoValue place)) (Ok (to_select n)))) Writing
   select_writes true n = tt
@@ -108,6 +87,6 @@ module _ {V : Type 0} (m : Meaning V) (d : Device V) (place : Place) where
   settings_write k (Ok s) = tt
 
   pub write_writes : (w : Written (List ℕ)) → IfOk (carried m d (write_asked m d place w)) Writing
-  write_writes (WrittenCommand code) = command_writes (known place code)
+  write_writes (WrittenCommand code) = command_writes (commanded m d.terms place d.teach code)
   write_writes (Select n) = select_writes (past_count d n) _
   write_writes (Channel k content) = settings_write k (settings_checked m d.range place.index content)

@@ -9,12 +9,12 @@ use Rattle.isdu.specs.Replies.{write_reply}
 use Rattle.isdu.specs.Requests.{Asked}
 use Rattle.sensor.specs.Answers.{ShowsOneToEight, counted, plain}
 use Rattle.sensor.specs.Calls.{Act, shows}
-use Rattle.sensor.specs.Requests.{refused}
+use Rattle.sensor.specs.Requests.{refused, response_room}
 use Rattle.sensor.specs.Rules.{granted_by, request_written}
 use Rattle.sensor.proofs.Orders.{Writing}
 
--- the response to a write that is done has room in 16 octets or more
-pub write_confirmed : (room : ℕ) → 16 ≤ room → delivered (length write_reply) room ≡ Ok (length write_reply)
+-- the response to a write that is done has room in every response buffer
+pub write_confirmed : (room : ℕ) → response_room ≤ room → delivered (length write_reply) room ≡ Ok (length write_reply)
 write_confirmed room h = cond-false _ _ _ (le-ltb room 2 (omega arith))
 
 -- a buffer that is too short has no response

@@ -18,7 +18,7 @@ module _ {V : Type 0} (m : Meaning V) where
   at_device : (o : Option (Device V)) (g : Setup (List ℕ))
       → checked_by m o (set_up g) ≡ then (set_up_checked m (keypad_open (record { device = o })) g) (λ e. Ok (starts e))
   at_device None g = refl
-  at_device (Some d) g = carried_start d (set_up_checked m d.keypad g)
+  at_device (Some d) g = carried_start d (set_up_checked m d.keypad.is_open g)
 
   -- its checks, by whether an operation is open
   pub set_up_is : (s : Sensor V) (g : Setup (List ℕ)) → checked m s (set_up g) ≡ then (set_up_checked m (keypad_open s) g) (λ e. Ok (starts e))

@@ -1,11 +1,8 @@
 -- How each method of a sensor hands out what a call comes to.
 use Rattle.std.specs.Prelude.{ℕ, List, length, Ok, Err, Result}
 use Rattle.faults.specs.declared.Fault.{Fault}
-use Rattle.sensor.specs.declared.keypad.Ticket.{Ticket}
-use Rattle.sensor.specs.declared.keypad.Unclosed.{Unclosed}
 use Rattle.objects.specs.Reads.{OneToEight}
 use Rattle.sensor.specs.Calls.{Act, shows}
-use Rattle.sensor.specs.Keypad.{ticket_of}
 
 module _ {V : Type 0} where
   -- accepted, or the fault
@@ -17,16 +14,6 @@ module _ {V : Type 0} where
   abbrev pub counted : List ℕ → Result (Act V) Fault → Result ℕ Fault
   counted octets (Ok a) = Ok (length octets)
   counted octets (Err f) = Err f
-
-  -- a ticket of a serial number
-  abbrev pub ticketed : ℕ → Result (Act V) Fault → Result Ticket Fault
-  ticketed n (Ok a) = Ok (ticket_of n)
-  ticketed n (Err f) = Err f
-
-  -- a closing that is denied hands its ticket back
-  abbrev pub returned : Ticket → Result (Act V) Fault → Result (Unit {0}) Unclosed
-  returned t (Ok a) = Ok tt
-  returned t (Err f) = Err (record { fault = f; ticket = t })
 
   -- a read shows one octet to eight
   abbrev pub ShowsOneToEight : Act V → Type 0

@@ -3,7 +3,6 @@ use Rattle.std.specs.Prelude.{ℕ, List}
 use Rattle.faults.specs.declared.Fault.{Fault}
 use Rattle.faults.specs.declared.Place.{Place}
 use Rattle.channels.specs.declared.reading.Reading.{Reading}
-use Rattle.teach.specs.declared.command.Command.{Command}
 use Rattle.teach.specs.Machine.{Moved}
 use Rattle.objects.specs.declared.access.Shown.{Shown}
 use Rattle.objects.specs.Writes.{Setting}
@@ -24,7 +23,8 @@ pub data Call : Type 0 where
   close_keypad : ℕ → Call
   restart : Call
 
--- what a call asks for, once it has passed every check that does not look at the state of the teach
+-- what a call asks for, once it has passed every check but those of commands and openings, which look at the state of
+-- the teach
 pub data Order (V : Type 0) : Type 0 where
   -- the device that a set-up gives
   to_start : Device V → Order V
@@ -32,8 +32,8 @@ pub data Order (V : Type 0) : Type 0 where
   to_show : Shown → Order V
   -- a channel
   to_select : ℕ → Order V
-  -- a command, and the place that its denial would tell
-  to_command : Place → Command → Order V
+  -- the code of a command, and the place that its denial would tell
+  to_command : Place → ℕ → Order V
   -- settings of a channel, from the bus or the keypad
   to_write : ℕ → List (Setting V) → Order V
   to_open to_close to_restart : Order V

@@ -6,7 +6,7 @@ use Rattle.faults.specs.Denials.{fault}
 use Rattle.kinds.specs.Meaning.{Meaning}
 use Rattle.channels.specs.declared.reading.Reading.{Reading}
 use Rattle.channels.specs.declared.reading.Reading.TheVariants.{Value, Below, Above, NoData}
-use Rattle.channels.specs.Readings.{block, block_length, counted}
+use Rattle.channels.specs.Readings.{process_data, process_data_length, within}
 use Rattle.channels.specs.Table.{judged_table, signals_octet}
 use Rattle.teach.specs.declared.machine.Change.TheVariants.{Keep}
 use Rattle.teach.specs.declared.machine.Verdict.TheVariants.{Open}
@@ -30,7 +30,8 @@ module _ {V : Type 0} (m : Meaning V) where
   abbrev pub sample_asked : Device V → Option (Reading V) → ℕ → Result (Order V) Fault
   sample_asked d None room = Err (fault NoValue)
   sample_asked d (Some r) room =
-      cond (nat_lt room (block_length m)) (Err (fault BufferTooShort)) (Ok (to_sample (counted m d.range.low d.range.high r)))
+      cond (nat_lt room (process_data_length m)) (Err (fault BufferTooShort))
+      (Ok (to_sample (within m d.range.low d.range.high r)))
 
   -- a value feeds the teach; nothing else is captured or counted
   abbrev pub heard : Device V → Reading V → Moved V
@@ -38,5 +39,5 @@ module _ {V : Type 0} (m : Meaning V) where
   heard d r = moved d.teach.state Keep Open
 
   -- process data: the reading, the scale, the signals that the judging left
-  abbrev pub process_data : Device V → Reading V → List ℕ
-  process_data d r = block m r d.scale (signals_octet (judged_table m r d.channels))
+  abbrev pub sample_data : Device V → Reading V → List ℕ
+  sample_data d r = process_data m r d.scale (signals_octet (judged_table m r d.channels))

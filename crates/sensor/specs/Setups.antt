@@ -1,10 +1,11 @@
 -- Set-up: its checks in their order, and the device that it gives.
-use Rattle.std.specs.Prelude.{ℕ, Bool, false, cond, not, ◌&&◌, List, ℤ, Some, Ok, Err, Option, Result}
+use Rattle.std.specs.Prelude.{ℕ, Bool, cond, not, ◌&&◌, List, ℤ, Some, Ok, Err, Option, Result}
 use Rattle.std.specs.Int.{w8}
 use Rattle.std.proofs.Common.{of_z}
 use Rattle.faults.specs.declared.Fault.{Fault}
 use Rattle.faults.specs.declared.Denial.TheVariants.{SetupUnderKeypad, ChannelCount, Range, CaptureLength, NoValue}
 use Rattle.faults.specs.Denials.{fault, then}
+use Rattle.keypad.specs.Operations.{closed_keypad}
 use Rattle.kinds.specs.Meaning.{Meaning, at_most, under}
 use Rattle.channels.specs.declared.range.Range as Ranges
 use Rattle.channels.specs.Table.{fresh_table, most_channels}
@@ -18,13 +19,13 @@ abbrev pub scale_octet : ℤ → ℕ
 scale_octet scale = of_z w8 scale
 
 module _ {V : Type 0} where
-  -- the device after an accepted set-up: every channel fresh, channel 1 selected, the teach idle, no keypad operation open
+  -- the device after an accepted set-up: every channel fresh, channel 1 selected, the teach idle, no keypad operation
+  -- open
   abbrev pub fresh_device : Setup (List ℕ) → Ranges.Range V → Device V
   fresh_device g range = record {
-    serial = g.serial;
     range = range;
     scale = scale_octet g.scale;
-    keypad = false;
+    keypad = closed_keypad g.serial;
     selected = 1;
     terms = g.terms;
     teach = idle;

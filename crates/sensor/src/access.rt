@@ -11,27 +11,29 @@ ghost use Rattle.std.specs.Prelude.{◌≡◌};
 
 use super::device::Device;
 use faults::{Denial, Fault, Place};
-use kinds::kind::Kind;
-use objects::access::{Content, Written};
-use objects::value::write_content;
-use teach::teaching::Teach;
+use kinds::Kind;
+use objects::{Content, Written, write_content};
+use teach::Teach;
 
 impl<K: Kind> Device<K> {
-    // Each write, here and from the keypad, has a clause for its reply and one for the device, both taken from one definition. A
-    // single clause on a pair would be taken apart again in each proof.
+    // Each write, here and from the keypad, has a clause for its reply and one for the device, both taken from one
+    // definition. A single clause on a pair would be taken apart again in each proof.
 
     // A command to the teach of the selected channel.
     fn command(&mut self, code: u8, place: Place) -> Result<(), Fault>
-        ensures reply { result ≡ plain (carried K.meaning self.old (write_asked K.meaning self.old place (Written.Command code))) }
-        ensures device { self.new ≡ device_by K.meaning self.old (carried K.meaning self.old (write_asked K.meaning self.old place (Written.Command code))) }
+        ensures reply { result
+            ≡ plain (carried K.meaning self.old (write_asked K.meaning self.old place (Written.Command code))) }
+        ensures device { self.new
+            ≡ device_by K.meaning self.old
+            (carried K.meaning self.old (write_asked K.meaning self.old place (Written.Command code))) }
     {
         let store = self.teach.command(self.terms, code, place)?;
         self.store(store);
         Ok(())
     }
 
-    // Turns to a channel, which drops the teach.
-    pub(crate) fn turn_to(&mut self, channel: u8)
+    // Selects a channel that is there, which drops the teach.
+    pub(crate) fn select_channel(&mut self, channel: u8)
         ensures { self.new ≡ selecting self.old channel }
     {
         self.selected = channel;
@@ -47,20 +49,25 @@ impl<K: Kind> Device<K> {
     // Selects a channel; 0 means channel 1.
     fn select(&mut self, channel: u8, place: Place) -> Result<(), Fault>
         ensures reply { result ≡ plain (carried K.meaning self.old (select_asked self.old place channel)) }
-        ensures device { self.new ≡ device_by K.meaning self.old (carried K.meaning self.old (select_asked self.old place channel)) }
+        ensures device { self.new
+            ≡ device_by K.meaning self.old (carried K.meaning self.old (select_asked self.old place channel)) }
     {
         if self.is_past_count(channel) {
             return Err(Fault::at(Denial::NoValue, place));
         }
-        self.turn_to(channel.max(1));
+        self.select_channel(channel.max(1));
         Ok(())
     }
 
     // Changes settings of a channel that is present.
     fn change(&mut self, channel: u8, content: Content<&[u8]>, place: Place) -> Result<(), Fault>
         requires { HasRow self.old.channels channel }
-        ensures reply { result ≡ plain (carried K.meaning self.old (write_asked K.meaning self.old place (Written.Channel channel (lent_content content.entry)))) }
-        ensures device { self.new ≡ device_by K.meaning self.old (carried K.meaning self.old (write_asked K.meaning self.old place (Written.Channel channel (lent_content content.entry)))) }
+        ensures reply { result
+            ≡ plain (carried K.meaning self.old
+            (write_asked K.meaning self.old place (Written.Channel channel (lent_content content.entry)))) }
+        ensures device { self.new
+            ≡ device_by K.meaning self.old (carried K.meaning self.old
+            (write_asked K.meaning self.old place (Written.Channel channel (lent_content content.entry)))) }
     {
         let row = self.present_row(channel);
         let row = write_content(row, content, self.range, place.index)?;
@@ -71,8 +78,11 @@ impl<K: Kind> Device<K> {
     // Writes what a request brings. A denied write changes nothing.
     pub(crate) fn write(&mut self, written: Written<&[u8]>, place: Place) -> Result<(), Fault>
         requires { WrittenHasRow self.old.channels written }
-        ensures reply { result ≡ plain (carried K.meaning self.old (write_asked K.meaning self.old place (lent_written written.entry))) }
-        ensures device { self.new ≡ device_by K.meaning self.old (carried K.meaning self.old (write_asked K.meaning self.old place (lent_written written.entry))) }
+        ensures reply { result
+            ≡ plain (carried K.meaning self.old (write_asked K.meaning self.old place (lent_written written.entry))) }
+        ensures device { self.new
+            ≡ device_by K.meaning self.old
+            (carried K.meaning self.old (write_asked K.meaning self.old place (lent_written written.entry))) }
     {
         match written {
             Written::Command(code) => self.command(code, place),

@@ -1,31 +1,28 @@
-// What a sensor holds once it is set up.
 ghost use Rattle.channels.specs.Table.{judged_table, signals_octet};
 ghost use Rattle.sensor.specs.Answers.{counted};
 ghost use Rattle.sensor.specs.Calls.{samples};
-ghost use Rattle.sensor.specs.Devices.{given, setpoint_setting, stored, taken, with_channels};
+ghost use Rattle.sensor.specs.Devices.{with_settings_at, setpoint_setting, stored, after_step, with_channels};
 ghost use Rattle.sensor.specs.Rules.{carried, device_by, done, sample_written};
 ghost use Rattle.sensor.specs.Samples.{heard, sample_asked};
 ghost use Rattle.octets.specs.Buffers.{over};
 ghost use Rattle.std.specs.Prelude.{◌≡◌, [], ◌∷◌, length, Some};
 
-use channels::range::Range;
-use channels::reading::{Reading, block_length};
-use channels::table::Table;
+use channels::{Range, Reading, Table, process_data_length};
 use faults::{Denial, Fault};
-use kinds::kind::Kind;
-use teach::command::Setpoint;
-use teach::teaching::{Store, Teach};
-use teach::terms::Terms;
+use keypad::Keypad;
+use kinds::Kind;
+use teach::{Setpoint, Store, Teach, Terms};
 
+/// What a sensor holds once it is set up.
 #[derive(Drop)]
 pub struct Device<K> {
-    pub serial: u32,
+    /// How many values a capture takes, and spread and distance in steps.
     pub terms: Terms,
-    // The octet of the scale.
+    /// The octet of the scale.
     pub scale: u8,
-    // Whether a keypad operation is open.
-    pub keypad: bool,
-    // The channel that is taught, counted from 1.
+    /// The serial number, and whether a keypad operation is open.
+    pub keypad: Keypad,
+    /// The channel that is taught, counted from 1.
     pub selected: u8,
     pub range: Range<K>,
     pub teach: Teach<K>,
@@ -35,7 +32,9 @@ pub struct Device<K> {
 impl<K: Kind> Device<K> {
     // Gives a channel another setpoint; one that is not present stays away.
     pub(crate) fn put_setpoint(&mut self, channel: u8, setpoint: Setpoint, value: K)
-        ensures { self.new ≡ with_channels self.old (given self.old.channels channel (setpoint_setting setpoint value ∷ [])) }
+        ensures { self.new
+            ≡ with_channels self.old
+            (with_settings_at self.old.channels channel (setpoint_setting setpoint value ∷ [])) }
     {
         let Some(mut row) = self.channels.row(channel) else {
             return;
@@ -58,7 +57,7 @@ impl<K: Kind> Device<K> {
 
     // Feeds the teach: only a value is captured.
     fn feed(&mut self, reading: Reading<K>)
-        ensures { self.new ≡ taken self.old (heard K.meaning self.old reading) }
+        ensures { self.new ≡ after_step self.old (heard K.meaning self.old reading) }
     {
         if let Reading::Value(v) = reading {
             let store = self.teach.feed(self.terms, v);
@@ -71,25 +70,31 @@ impl<K: Kind> Device<K> {
         ensures signals { result ≡ signals_octet (judged_table K.meaning reading self.old.channels) }
         ensures device { self.new ≡ done K.meaning self.old (samples reading (heard K.meaning self.old reading)) }
     {
-        let signals = self.channels.pass(reading);
+        let signals = self.channels.judge(reading);
         self.feed(reading);
         signals
     }
 
     // Judges every channel by the reading, feeds the teach, and writes process data.
     pub(crate) fn sample(&mut self, reading: Reading<K>, out: &mut [u8]) -> Result<usize, Fault>
-        ensures reply { let x = carried K.meaning self.old (sample_asked K.meaning self.old (Some reading) (length out.old)) in result ≡ counted (sample_written K.meaning self.old x) x }
-        ensures device { self.new ≡ device_by K.meaning self.old (carried K.meaning self.old (sample_asked K.meaning self.old (Some reading) (length out.old))) }
-        ensures buffer { out.new ≡ over (sample_written K.meaning self.old (carried K.meaning self.old (sample_asked K.meaning self.old (Some reading) (length out.old)))) out.old }
+        ensures reply { let x = carried K.meaning self.old
+            (sample_asked K.meaning self.old (Some reading) (length out.old)) in
+            result ≡ counted (sample_written K.meaning self.old x) x }
+        ensures device { self.new
+            ≡ device_by K.meaning self.old
+            (carried K.meaning self.old (sample_asked K.meaning self.old (Some reading) (length out.old))) }
+        ensures buffer { out.new
+            ≡ over (sample_written K.meaning self.old
+            (carried K.meaning self.old (sample_asked K.meaning self.old (Some reading) (length out.old)))) out.old }
     {
-        if out.len() < block_length::<K>() {
+        if out.len() < process_data_length::<K>() {
             return Err(Fault::of(Denial::BufferTooShort));
         }
         let scale = self.scale;
         let reading = reading.within(self.range);
         let signals = self.judge_and_feed(reading);
         reading
-            .show(scale, signals, out)
+            .write_process_data(scale, signals, out)
             .ok_or(Fault::of(Denial::BufferTooShort))
     }
 }

@@ -6,10 +6,9 @@ ghost use Rattle.sensor.specs.Requests.{octets_shown};
 ghost use Rattle.std.specs.Prelude.{◌≡◌, Some};
 
 use super::device::Device;
-use channels::row::Row;
-use kinds::kind::Kind;
-use objects::access::Shown;
-use objects::shown::read_part;
+use channels::Row;
+use kinds::Kind;
+use objects::{Shown, read_part};
 use octets::put;
 
 impl<K: Kind> Device<K> {

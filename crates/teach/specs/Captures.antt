@@ -13,6 +13,6 @@ module _ {V : Type 0} where
   widened m s v = record { lowest = lesser m v s.lowest; highest = greater m v s.highest }
 
   -- one value more
-  abbrev pub taken : Meaning V → Option (Captured V) → V → Captured V
-  taken m None v = record { span = span_of v; count = 1 }
-  taken m (Some c) v = record { span = widened m c.span v; count = c.count + 1 }
+  abbrev pub with_value : Meaning V → Option (Captured V) → V → Captured V
+  with_value m None v = record { span = span_of v; count = 1 }
+  with_value m (Some c) v = record { span = widened m c.span v; count = c.count + 1 }

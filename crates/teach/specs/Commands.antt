@@ -12,8 +12,8 @@ use Rattle.teach.specs.declared.command.Step.TheVariants.{Apply, Single, Point, 
 abbrev row : ℕ → Setpoint → Teachpoint → Step → Command
 row c s t k = record { code = c; setpoint = s; teachpoint = t; step = k }
 
--- the codes are hexadecimal: 40 Apply; 41, 42 Teach SP1, SP2; 43, 44 SP1 TP1, TP2; 45, 46 SP2 TP1, TP2; 47, 48 SP1 Start, Stop;
--- 49, 4A SP2 Start, Stop; 4F Cancel. Where a command has no setpoint or no teachpoint, nothing looks at it
+-- the codes are hexadecimal: 40 Apply; 41, 42 Teach SP1, SP2; 43, 44 SP1 TP1, TP2; 45, 46 SP2 TP1, TP2; 47, 48 SP1
+-- Start, Stop; 49, 4A SP2 Start, Stop; 4F Cancel. Where a command has no setpoint or no teachpoint, nothing looks at it
 abbrev pub commands : List Command
 commands =
     row 0x40 Sp1 Tp1 Apply
@@ -34,5 +34,5 @@ commands =
 abbrev pub found : ℕ → List Command → Option Command
 found code = find (λ c. c.code == code)
 
-abbrev pub row_of : ℕ → Option Command
-row_of code = found code commands
+abbrev pub command_of : ℕ → Option Command
+command_of code = found code commands

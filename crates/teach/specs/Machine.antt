@@ -23,7 +23,7 @@ use Rattle.teach.specs.declared.machine.Verdict.{Verdict}
 use Rattle.teach.specs.declared.machine.Verdict.TheVariants.{Open}
 use Rattle.teach.specs.declared.machine.Effect.{Effect}
 use Rattle.teach.specs.declared.terms.Terms.{Terms}
-use Rattle.teach.specs.Captures.{span_of, taken, widened}
+use Rattle.teach.specs.Captures.{span_of, with_value, widened}
 use Rattle.teach.specs.Evaluation.{evaluate_single, evaluate_two, evaluate_dynamic, teachpoint_of}
 use Rattle.teach.specs.Flags.{both_set}
 use Rattle.teach.specs.Teachpoints.{with_teachpoint}
@@ -109,17 +109,22 @@ module _ {V : Type 0} (m : Meaning V) (t : Terms) where
   ended k = cond (full k) (Some k.span) None
 
   abbrev pub single_fed : Setpoint → Captured V → Moved V
-  single_fed sp k = cond (full k) (moved Idle Keep (evaluate_single m t sp k.span.lowest k.span.highest)) (moved (BusySingle sp (Some k)) Keep Open)
+  single_fed sp k =
+      cond (full k) (moved Idle Keep (evaluate_single m t sp k.span.lowest k.span.highest))
+      (moved (BusySingle sp (Some k)) Keep Open)
 
   -- a teachpoint that is taken again replaces the earlier one
   abbrev pub two_fed : Setpoint → Teachpoint → Teachpoints (Option V) → Captured V → Moved V
   two_fed sp tp p k =
-      cond (full k) (moved (WaitTwo sp (with_teachpoint p tp (Some (teachpoint_of m t k.span.lowest k.span.highest)))) (Set sp tp) Open) (moved (BusyTwo sp tp (Some k) p) Keep Open)
+      cond (full k)
+      (moved (WaitTwo sp (with_teachpoint p tp (Some (teachpoint_of m t k.span.lowest k.span.highest))))
+      (Set sp tp) Open)
+      (moved (BusyTwo sp tp (Some k) p) Keep Open)
 
   -- a value: captured in the Busy states, by Dyn Start and by Wait Dyn
   abbrev pub fed : State V → V → Moved V
-  fed (BusySingle sp k) v = single_fed sp (taken m k v)
-  fed (BusyTwo sp tp k p) v = two_fed sp tp p (taken m k v)
+  fed (BusySingle sp k) v = single_fed sp (with_value m k v)
+  fed (BusyTwo sp tp k p) v = two_fed sp tp p (with_value m k v)
   fed (DynStart sp) v = moved (WaitDyn sp (span_of v)) Keep Open
   fed (WaitDyn sp s) v = moved (WaitDyn sp (widened m s v)) Keep Open
   fed s v = moved s Keep Open

@@ -12,7 +12,7 @@ use Rattle.teach.specs.declared.machine.State.{State}
 use Rattle.teach.specs.declared.machine.State.TheVariants.{BusySingle, BusyTwo}
 use Rattle.teach.specs.declared.machine.Verdict.TheVariants.{Open, Stores}
 use Rattle.teach.specs.declared.terms.Terms.{Terms}
-use Rattle.teach.specs.Captures.{taken}
+use Rattle.teach.specs.Captures.{with_value}
 use Rattle.teach.specs.Evaluation.{evaluate_single, evaluate_two, evaluate_dynamic}
 use Rattle.teach.specs.Machine.{Moved, fed, row}
 
@@ -45,20 +45,21 @@ module _ {V : Type 0} (m : Meaning V) (t : Terms) where
   Between a b v = (m.rank (lesser m a b) ≤ℤ m.rank v) × (m.rank v ≤ℤ m.rank (greater m a b))
 
   -- what an evaluation stores lies between the values that it is given
-  abbrev pub StoresWithin : Type 0
-  StoresWithin = (sp s : Setpoint) (a b v : V)
+  abbrev pub EvaluatesWithin : Type 0
+  EvaluatesWithin = (sp s : Setpoint) (a b v : V)
       → (evaluate_single m t sp a b ≡ Stores s v → Between a b v)
       × (evaluate_two m t sp a b ≡ Stores s v → Between a b v)
       × (evaluate_dynamic m t sp a b ≡ Stores s v → Between a b v)
 
-  -- a capture's lowest and highest hold what it takes between them, and never draw together
+  -- a capture's lowest and highest hold what it takes between them, and never move towards each other
   abbrev pub CapturesWiden : Type 0
   CapturesWiden = (k : Captured V) (v : V)
-      → (m.rank (taken m (Some k) v).span.lowest ≤ℤ m.rank v)
-      × (m.rank (taken m (Some k) v).span.lowest ≤ℤ m.rank k.span.lowest)
-      × (m.rank v ≤ℤ m.rank (taken m (Some k) v).span.highest)
-      × (m.rank k.span.highest ≤ℤ m.rank (taken m (Some k) v).span.highest)
+      → (m.rank (with_value m (Some k) v).span.lowest ≤ℤ m.rank v)
+      × (m.rank (with_value m (Some k) v).span.lowest ≤ℤ m.rank k.span.lowest)
+      × (m.rank v ≤ℤ m.rank (with_value m (Some k) v).span.highest)
+      × (m.rank k.span.highest ≤ℤ m.rank (with_value m (Some k) v).span.highest)
 
   -- Cancel never stores: there is no copy to put back
   abbrev pub CancelStoresNothing : Type 0
-  CancelStoresNothing = (f : Flags) (s : State V) (c : Command) (x : Moved V) → row m f t s Cancel c ≡ Some x → x.effect.verdict ≡ Open
+  CancelStoresNothing = (f : Flags) (s : State V) (c : Command) (x : Moved V)
+      → row m f t s Cancel c ≡ Some x → x.effect.verdict ≡ Open

@@ -18,7 +18,7 @@ use Rattle.teach.specs.declared.machine.Effect.{Effect}
 use Rattle.teach.specs.declared.terms.Terms.{Terms}
 use Rattle.teach.specs.declared.teaching.Teach.{Teach}
 use Rattle.teach.specs.declared.teaching.Store.{Store}
-use Rattle.teach.specs.Commands.{row_of}
+use Rattle.teach.specs.Commands.{command_of}
 use Rattle.teach.specs.Flags.{no_flags, changed, flag_bits}
 use Rattle.teach.specs.Machine.{Moved, row, row_checked, fed, same_setpoint}
 
@@ -65,7 +65,8 @@ module _ {V : Type 0} where
   store_of (Stores sp v) = Some (record { setpoint = sp; value = v })
   store_of v = None
 
-  -- TeachState: 5 in the Busy states and Dyn Start, 4 in the Wait states, 7 after a failure, else 1 for SP1 plus 2 for SP2
+  -- TeachState: 5 in the Busy states and Dyn Start, 4 in the Wait states, 7 after a failure, else 1 for SP1 plus 2 for
+  -- SP2
   abbrev pub teach_state : Teach V → State V → ℕ
   teach_state t Idle = cond t.failed 7 (cond t.taught_sp1 1 0 + 2 * cond t.taught_sp2 1 0)
   teach_state t (WaitTwo sp p) = 4
@@ -77,12 +78,12 @@ module _ {V : Type 0} where
   teach_result t = teach_state t t.state + flag_bits t.flags
 
 -- 20: the code is not in the table
-abbrev named : Place → Option Command → Result Command Fault
+abbrev pub named : Place → Option Command → Result Command Fault
 named place None = Err (fault_at UnknownCommand place)
 named place (Some c) = Ok c
 
-abbrev pub known : Place → ℕ → Result Command Fault
-known place code = named place (row_of code)
+abbrev pub known_command : Place → ℕ → Result Command Fault
+known_command place code = named place (command_of code)
 
 module _ {V : Type 0} where
   -- what a command that is taken stores
@@ -99,9 +100,9 @@ module _ {V : Type 0} (m : Meaning V) (terms : Terms) where
   abbrev pub row_in : Teach V → Command → Option (Moved V)
   row_in t c = row m t.flags terms t.state c.step c
 
-  -- a command's code: 20, then 21
+  -- the checks of a command, by its code: 20, then 21
   abbrev pub commanded : Place → Teach V → ℕ → Result (Moved V) Fault
-  commanded place t code = then (known place code) (λ c. row_checked place (row_in t c))
+  commanded place t code = then (known_command place code) (λ c. row_checked place (row_in t c))
 
   -- a value that is fed
   abbrev pub fed_store : Teach V → V → Option (Store V)

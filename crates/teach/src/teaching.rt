@@ -1,28 +1,31 @@
-// A sensor's teach: the machine with its flags, what was taught since the last select, and whether it failed.
 ghost use Rattle.teach.specs.Flags.{changed, flag_bits};
-ghost use Rattle.teach.specs.Promises.{CancelStoresNothing, CapturesWiden, StoresWithin, TakesExactlyC};
-ghost use Rattle.teach.specs.Teaching.{fed_store, fed_teach, commanded, idle as idle_teach, is_idle, known, settled, store_by, store_of, teach_by, teach_result};
+ghost use Rattle.teach.specs.Promises.{CancelStoresNothing, CapturesWiden, EvaluatesWithin, TakesExactlyC};
+ghost use Rattle.teach.specs.Teaching.{fed_store, fed_teach, commanded, idle as idle_teach, is_idle, known_command};
+ghost use Rattle.teach.specs.Teaching.{settled, store_by, store_of, teach_by, teach_result};
 ghost use Rattle.std.specs.Prelude.{◌≡◌};
 
-use super::command::{Command, Setpoint, find};
+use super::command::{Command, Setpoint, command_of};
 use super::machine::{Change, Effect, Flags, State, Teachpoints, Verdict};
 use super::terms::Terms;
 use faults::{Denial, Fault, Place};
-use kinds::kind::Kind;
+use kinds::Kind;
 
+/// A sensor's teach: the machine with its flags, what was taught since the last select, and whether it failed.
 #[derive(Clone, Copy)]
 pub struct Teach<K> {
     pub flags: Flags,
-    // These three are no states: they outlast a return to Idle, and the state table names Idle alone.
-    // Which setpoints were taught since the last select.
+    /// Whether SP1 was taught since the last select.
+    // This, `taught_sp2` and `failed` are no states: they outlast a return to Idle, and the state table names Idle
+    // alone.
     pub taught_sp1: bool,
+    /// Whether SP2 was taught since the last select.
     pub taught_sp2: bool,
-    // Whether the last evaluation failed and no teach has begun since.
+    /// Whether the last evaluation failed and no teach has begun since.
     pub failed: bool,
     pub state: State<K>,
 }
 
-// A setpoint to store.
+/// A setpoint to store in the selected channel.
 #[derive(Clone, Copy)]
 pub struct Store<K> {
     pub setpoint: Setpoint,
@@ -56,13 +59,13 @@ impl Flags {
 
 // The row of a command's code, or the denial of an unknown one.
 fn known_command(code: u8, place: Place) -> Result<Command, Fault>
-    ensures { result ≡ known place code }
+    ensures { result ≡ known_command place code }
 {
-    find(code).ok_or(Fault::at(Denial::UnknownCommand, place))
+    command_of(code).ok_or(Fault::at(Denial::UnknownCommand, place))
 }
 
 impl<K: Kind> Teach<K> {
-    // The teach after set-up, a select or a restart.
+    /// The teach after set-up, a select or a warm restart: idle, without flags, nothing taught, no failure.
     pub fn idle() -> Teach<K>
         ensures { result ≡ idle_teach }
     {
@@ -75,6 +78,7 @@ impl<K: Kind> Teach<K> {
         }
     }
 
+    /// Whether the machine is in Idle.
     pub fn is_idle(&self) -> bool
         ensures { result ≡ is_idle self.now.state }
     {
@@ -109,7 +113,9 @@ impl<K: Kind> Teach<K> {
         }
     }
 
-    // Takes a command by its code. A denied command changes nothing.
+    /// Takes a command by its code, and answers what is to be stored: `None` unless an evaluation succeeds. Denials: 20
+    /// where the command table has no such code; then 21 where the state's row does not have the command, or Apply
+    /// comes without both flags. A denied command changes nothing.
     pub fn command(
         &mut self,
         terms: Terms,
@@ -118,7 +124,7 @@ impl<K: Kind> Teach<K> {
     ) -> Result<Option<Store<K>>, Fault>
         ensures reply { result ≡ store_by (commanded K.meaning terms place self.old code) }
         ensures teach { self.new ≡ teach_by self.old (commanded K.meaning terms place self.old code) }
-        ensures stores_within { StoresWithin {V = K} K.meaning terms }
+        ensures evaluates_within { EvaluatesWithin {V = K} K.meaning terms }
         ensures cancel_stores_nothing { CancelStoresNothing {V = K} K.meaning terms }
     {
         let command = known_command(code, place)?;
@@ -126,19 +132,21 @@ impl<K: Kind> Teach<K> {
         Ok(self.settle(effect))
     }
 
-    // Feeds a value, and answers what is to be stored.
+    /// Feeds a value that is in the range, and answers what is to be stored: `None` unless it completes a teach with
+    /// success.
     pub fn feed(&mut self, terms: Terms, v: K) -> Option<Store<K>>
         ensures store { result ≡ fed_store K.meaning terms self.old v }
         ensures teach { self.new ≡ fed_teach K.meaning terms self.old v }
         ensures takes_exactly_c { TakesExactlyC {V = K} K.meaning terms }
         ensures captures_widen { CapturesWiden {V = K} K.meaning terms }
-        ensures stores_within { StoresWithin {V = K} K.meaning terms }
+        ensures evaluates_within { EvaluatesWithin {V = K} K.meaning terms }
     {
         let effect = self.state.feed(terms, v);
         self.settle(effect)
     }
 
-    // TeachResult: TeachState in bits 0 to 3, the flags in bits 4 to 7.
+    /// TeachResult: TeachState in bits 0 to 3, the flags in bits 4 to 7. 0x14 is Wait Two with SP1 TP1 captured, 0x37 a
+    /// failure with both teachpoints of SP1 captured.
     pub fn result(&self) -> u8
         ensures { result ≡ teach_result self.now }
     {

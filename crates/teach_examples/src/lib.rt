@@ -1,16 +1,13 @@
-// Teaching, on worked cases.
+//! Tests of the teach on worked cases. docs/RULES.md, "Teach", has the rules.
 #![tactic(auto)]
 
 #[cfg(test)]
 mod tests {
     use faults::Place;
-    use kinds::integer_t16::IntegerT16;
-    use kinds::kind::Kind;
+    use kinds::{IntegerT16, Kind};
     use std::process::Abort;
     use std::test::Fail;
-    use teach::command::Setpoint;
-    use teach::teaching::{Store, Teach};
-    use teach::terms::Terms;
+    use teach::{Setpoint, Store, Teach, Terms};
 
     // SystemCommand.
     const PLACE: Place = Place {

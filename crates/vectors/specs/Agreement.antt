@@ -12,7 +12,12 @@ use Rattle.vectors.specs.declared.lines.Vector.{Vector}
 
 -- the request that a line tells of
 abbrev pub wanted : Expected → Asked
-wanted line = record { direction = line.direction; index = line.index; subindex = line.subindex; octets = vec_items line.«data» }
+wanted line = record {
+  direction = line.direction;
+  index = line.index;
+  subindex = line.subindex;
+  octets = vec_items line.«data»;
+}
 
 -- the request composes as the octets that the line gives for its shortest frame
 abbrev pub Composes : Expected → Type 0

@@ -8,16 +8,17 @@ ghost use Rattle.vectors.specs.Answers.{Leaves, Replies, untouched};
 
 use crate::replays::Mismatch;
 use faults::{Denial, Fault};
-use kinds::kind::Kind;
+use kinds::Kind;
 use octets::put;
-use sensor::sensor::Sensor;
+use sensor::Sensor;
 
-// What a line says that a request is answered with.
+/// What a line says that a request is answered with.
 #[derive(Drop)]
 pub(crate) struct Answer {
+    /// The number of the denial.
     // A number and no `Denial`, as in `Outcome`.
     pub(crate) denied: Option<u8>,
-    // The octets that are written: none where a denial has no response.
+    /// The octets that are written: none where a denial has no response.
     pub(crate) response: Vec<u8>,
 }
 
@@ -44,14 +45,18 @@ fn compare_reply(reply: Result<usize, Fault>, answer: &Answer) -> Result<Option<
     }
 }
 
-// Hands a frame to a sensor and tells the denial, if it is denied. It finds no mismatch only where the rules agree with the line.
+/// Hands a frame to a sensor, with a response buffer of 16 octets 0xAA, and tells the denial, if it is denied. It finds
+/// no mismatch only where the rules agree with the line.
 pub(crate) fn ask<K: Kind>(
     sensor: &mut Sensor<K>,
     frame: &[u8],
     answer: &Answer,
 ) -> Result<Option<Denial>, Mismatch>
-    ensures reply { let c = request frame.now 16 in OnOk result (Replies (counted (written K.meaning sensor.old c) (checked K.meaning sensor.old c)) answer.now) }
-    ensures response { OnOk result (Leaves (over (written K.meaning sensor.old (request frame.now 16)) untouched) answer.now) }
+    ensures reply { let c = request frame.now 16 in
+        OnOk result
+        (Replies (counted (written K.meaning sensor.old c) (checked K.meaning sensor.old c)) answer.now) }
+    ensures response { OnOk result
+        (Leaves (over (written K.meaning sensor.old (request frame.now 16)) untouched) answer.now) }
     ensures sensor { sensor.new ≡ next K.meaning sensor.old (request frame.now 16) }
 {
     let mut buffer = [0xAAu8; 16];

@@ -1,60 +1,80 @@
-// The lines of the vectors: what a frame must decode to, a sensor's set-up, or requests and what they are answered with.
+// The lines of the vectors: what a frame must decode to, a sensor's set-up, or requests and what they are answered
+// with.
 ghost use Rattle.std.specs.Prelude.{◌≡◌, ◌++◌, IfOk};
 
 use crate::answers::Answer;
-use channels::range::Range;
+use channels::Range;
 use isdu::Direction;
-use sensor::setup::Setup;
+use sensor::Setup;
 use std::alloc::{AllocError, Global};
 use std::str::FromStr;
-use teach::terms::Terms;
+use teach::Terms;
 use thiserror::Error;
 use words::{KindName, Unread, octets};
 
+/// A line of the vectors.
 #[derive(Drop)]
 pub(crate) enum Line {
+    /// A frame for `isdu`, as `933BA9 = denied 9`.
     Frame(Vector),
+    /// A new sensor: its kind and its set-up.
     Sensor(KindName, Setup<Vec<u8>>),
+    /// Requests to the sensor.
     Requests(Requests),
 }
 
+/// A frame, and what its octets must decode to.
 #[derive(Drop)]
 pub(crate) struct Vector {
+    /// The octets of the frame.
     pub(crate) octets: Vec<u8>,
+    /// What they must decode to.
     pub(crate) outcome: Outcome,
 }
 
+/// What a frame must decode to.
 #[derive(Drop)]
 pub(crate) enum Outcome {
+    /// A denial, by its number.
     // A number and no `Denial`: a line may name one that no denial has, and is then told as a mismatch.
     Denied(u8),
+    /// A request.
     Asks(Expected),
 }
 
-// A request, and the octets that it composes as.
+/// A request, and the octets that it composes as.
 #[derive(Drop)]
 pub(crate) struct Expected {
+    /// Whether it reads or writes.
     pub(crate) direction: Direction,
+    /// The object.
     pub(crate) index: u16,
+    /// The part of the object; 0 is the whole.
     pub(crate) subindex: u8,
+    /// The octets to write; none of a read.
     pub(crate) data: Vec<u8>,
+    /// The octets of its shortest frame.
     pub(crate) shortest: Vec<u8>,
 }
 
-// Frames for a sensor, each of which has the same answer.
+/// Frames for a sensor, each of which has the same answer.
 #[derive(Drop)]
 pub(crate) struct Requests {
     pub(crate) frames: Vec<Vec<u8>>,
     pub(crate) answer: Answer,
 }
 
-// Why a line cannot be read. Want of memory for the octets of a word is told by `Word`.
+/// Why a line cannot be read.
 #[derive(Debug, Drop, Error)]
 #[error("cannot be read")]
 pub(crate) enum Unreadable {
+    /// There was no memory for the frames of a line.
     Memory(#[from(alloc)] AllocError),
+    /// A word that is no kind or no octets, or there was no memory for its octets.
     Word(#[from] Unread),
+    /// A word that is no number of its type.
     Number,
+    /// Parts are missing, or stand in another order.
     Layout,
 }
 
@@ -188,6 +208,7 @@ fn read_setup(heap: Global, fields: &str) -> Result<Setup<Vec<u8>>, Unreadable> 
     })
 }
 
+/// What a line says; it is given without its end.
 pub(crate) fn read_line(heap: Global, line: &str) -> Result<Line, Unreadable> {
     if let Some(setup) = line.strip_prefix("sensor ") {
         let (kind, fields) = halves(setup, " ")?;

@@ -1,5 +1,7 @@
-// Replays frames from standard input through `isdu`, and requests through a sensor, and compares what they do with what each
-// line says.
+//! The program `vectors`: it replays frames from standard input through `isdu`, and requests through a sensor, and
+//! compares what they do with what each line says.
+//!
+//! docs/RULES.md, "Vectors", has the format of the lines and of what is printed.
 #![tactic(auto)]
 
 mod answers;
@@ -11,7 +13,7 @@ mod tally;
 use anyhow::anyhow;
 use lines::{Line, Requests, Vector, read_line};
 use replays::replay;
-use sensor::setup::Setup;
+use sensor::Setup;
 use sensors::AnySensor;
 use std::io;
 use std::io::{BufRead, BufReader};

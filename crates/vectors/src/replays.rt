@@ -10,28 +10,37 @@ use faults::{Denial, Fault};
 use isdu::{Direction, Request};
 use thiserror::Error;
 
-// What a vector's octets came to, as its line says.
+/// What a vector's octets came to, as its line says.
 #[derive(Clone, Copy)]
 pub(crate) enum Seen {
+    /// They were denied.
     Denied(Denial),
+    /// They ask for a read or a write; `shorter`: its shortest frame has fewer octets.
     Asked { direction: Direction, shorter: bool },
 }
 
-// What a call came to against its line.
+/// What a call came to against its line.
 #[derive(Clone, Copy, Debug, Error)]
 pub(crate) enum Mismatch {
+    /// A frame decoded that has to be denied.
     #[error("decoded")]
     Decoded,
+    /// A call was denied that has to be accepted, or with another denial than its line has.
     #[error("denied {}", .0.number())]
     Denied(Denial),
+    /// A frame decoded as another request.
     #[error("decoded as another request")]
     OtherRequest,
+    /// The request that a frame decoded as could not be composed.
     #[error("composing denied {}", .0.number())]
     ComposeDenied(Denial),
+    /// It composed as another frame than the shortest that the line has.
     #[error("composed as another frame")]
     OtherFrame,
+    /// A sensor took a request that has to be denied.
     #[error("accepted")]
     Accepted,
+    /// The response has another length or other octets, or what lies past it did not stay.
     #[error("another response")]
     OtherResponse,
 }
@@ -89,7 +98,8 @@ fn replay_asked(request: &Request, expected: &Expected, length: usize) -> Result
     })
 }
 
-// Decodes a vector's octets and composes the request again. It finds no mismatch only where the rules agree with the line.
+/// Decodes a vector's octets and composes the request again. It finds no mismatch only where the rules agree with the
+/// line.
 pub(crate) fn replay(vector: &Vector) -> Result<Seen, Mismatch>
     ensures { OnOk result (Agrees vector.now) }
 {

@@ -1,15 +1,12 @@
-// A sensor of a kind that a line names.
 use crate::answers::{Answer, ask};
 use crate::replays::Mismatch;
-use days::call::lend_setup;
+use days::lend_setup;
 use faults::{Denial, Fault};
-use kinds::float32_t::Float32T;
-use kinds::integer_t16::IntegerT16;
-use kinds::integer_t32::IntegerT32;
-use sensor::sensor::Sensor;
-use sensor::setup::Setup;
+use kinds::{Float32T, IntegerT16, IntegerT32};
+use sensor::{Sensor, Setup};
 use words::KindName;
 
+/// A sensor of a kind that a line names.
 #[derive(Drop)]
 pub(crate) enum AnySensor {
     Int16(Sensor<IntegerT16>),
@@ -18,6 +15,7 @@ pub(crate) enum AnySensor {
 }
 
 impl AnySensor {
+    /// A sensor of this kind that is not set up.
     pub(crate) const fn blank(kind: KindName) -> AnySensor {
         match kind {
             KindName::Int16 => AnySensor::Int16(Sensor::blank()),
@@ -26,6 +24,7 @@ impl AnySensor {
         }
     }
 
+    /// Sets the sensor up, as `Sensor::set_up`.
     pub(crate) fn set_up(&mut self, setup: &Setup<Vec<u8>>) -> Result<(), Fault> {
         let setup = lend_setup(setup);
         match self {
@@ -35,6 +34,7 @@ impl AnySensor {
         }
     }
 
+    /// Hands a frame to the sensor, as `answers::ask`.
     pub(crate) fn ask(
         &mut self,
         frame: &[u8],

@@ -1,4 +1,3 @@
-// How many vectors and requests came to what.
 use crate::replays::{Mismatch, Seen};
 use faults::Denial;
 use isdu::Direction;
@@ -20,6 +19,7 @@ impl fmt::Display for Counter {
     }
 }
 
+/// How many vectors and requests came to what.
 #[derive(Clone, Copy, Default)]
 pub(crate) struct Tally {
     frames: Counter,
@@ -60,6 +60,7 @@ impl fmt::Display for Refused {
 }
 
 impl Tally {
+    /// Counts a frame.
     pub(crate) fn count(&mut self, seen: Result<Seen, Mismatch>) {
         self.frames.count();
         match seen {
@@ -69,6 +70,7 @@ impl Tally {
         }
     }
 
+    /// Counts a request.
     pub(crate) fn count_request(&mut self, seen: Result<Option<Denial>, Mismatch>) {
         self.requests.count();
         match seen {
@@ -78,6 +80,7 @@ impl Tally {
         }
     }
 
+    /// Counts a line for a sensor whose set-up was denied.
     pub(crate) fn count_mismatch(&mut self) {
         self.mismatches.count();
     }
@@ -104,6 +107,7 @@ impl Tally {
     }
 }
 
+/// The counts, a line for each but those of `denied with` that are 0.
 impl fmt::Display for Tally {
     fn fmt<W: fmt::Write>(&self, f: &mut fmt::Formatter<W>) -> fmt::Result {
         writeln!(f, "frames: {}", self.frames)?;

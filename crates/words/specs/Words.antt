@@ -1,5 +1,5 @@
 -- What a word stands for.
-use Rattle.std.specs.Prelude.{ℕ, cond, List, [], Some, None, Ok, Err, Option, Result, codes}
+use Rattle.std.specs.Prelude.{ℕ, Bool, cond, not, ◌&&◌, List, [], Some, None, Ok, Err, Option, Result, codes}
 use Rattle.std.specs.Str.{bytes_eq}
 use Rattle.hex.specs.Hex.{decode_of}
 use Rattle.hex.specs.declared.error.FromHexError.{FromHexError}
@@ -19,8 +19,13 @@ abbrev read_as : Result (List ℕ) FromHexError → Option (List ℕ)
 read_as (Ok octets) = Some octets
 read_as (Err error) = None
 
--- the octets of a word: two hexadecimal digits each, in either case; a dash stands for none, and an empty word for nothing
+-- the octets of a word: two hexadecimal digits each, in either case; a dash stands for none, and an empty word for
+-- nothing
 abbrev pub octets_told : List ℕ → Option (List ℕ)
 octets_told word =
     cond (bytes_eq word (codes "-")) (Some [])
     (cond (bytes_eq word []) None (read_as (decode_of word)))
+
+-- whether it is neither of these two: no other word takes memory
+abbrev pub has_digits : List ℕ → Bool
+has_digits word = not (bytes_eq word (codes "-")) && not (bytes_eq word [])

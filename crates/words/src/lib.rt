@@ -1,28 +1,33 @@
-// What words of the lines that both programs read stand for: kinds and octets.
+//! What words of the lines that both programs read stand for: kinds and octets.
+//!
+//! docs/RULES.md, "Session scripts of `bench`" and "Vectors", has the rules.
 #![tactic(auto)]
 
-ghost use Rattle.std.specs.Prelude.{◌≡◌, IfOk, Err, None, Some};
-ghost use Rattle.words.specs.Words.{kind_named, octets_told};
+ghost use Rattle.std.specs.Prelude.{◌≡◌, true, IfOk, Err, None, Some};
+ghost use Rattle.words.specs.Words.{has_digits, kind_named, octets_told};
 ghost use Rattle.words.specs.declared.Unread.TheVariants.{Memory, Unknown};
 
 use hex::FromHexError;
 use std::alloc::{AllocError, Global};
 use std::str::FromStr;
 
-// The kind of a sensor.
+/// The kind of a sensor.
 #[derive(Clone, Copy, PartialEq, Eq, Debug)]
 pub enum KindName {
+    /// IntegerT16, `int16`.
     Int16,
+    /// IntegerT32, `int32`.
     Int32,
+    /// Float32T, `float32`.
     Float32,
 }
 
-// Why a word is not read.
+/// Why a word is not read.
 #[derive(Clone, Copy, PartialEq, Eq, Debug)]
 pub enum Unread {
-    // It stands for nothing.
+    /// It stands for nothing.
     Unknown,
-    // There was no memory for what it stands for.
+    /// There was no memory for what it stands for.
     Memory,
 }
 
@@ -34,6 +39,7 @@ impl From<AllocError> for Unread {
     }
 }
 
+/// A kind by its word; any other word is `Unread::Unknown`.
 impl FromStr for KindName {
     type Err = Unread;
 
@@ -49,10 +55,12 @@ impl FromStr for KindName {
     }
 }
 
-// Octets as pairs of hexadecimal digits in either case, with nothing between them; `-` stands for none.
+/// The octets of a word: pairs of hexadecimal digits in either case, with nothing between them, as `03E8` of 03 E8; `-`
+/// stands for none. Any other word is `Unread::Unknown`, the empty one too.
 pub fn octets(heap: Global, word: &str) -> Result<Vec<u8>, Unread>
     ensures told { IfOk result (λ v. octets_told word.now ≡ Some v.items) }
     ensures unknown { result ≡ Err Unknown → octets_told word.now ≡ None }
+    ensures memory { result ≡ Err Memory → has_digits word.now ≡ true }
 {
     match word {
         "-" => Ok(Vec::new(heap)),

@@ -1,5 +1,6 @@
--- Worked sessions on a sensor with one channel, range -100 to 10,000, scale 0, C 1, S 0, D 10: all of IntegerT16, but for the one
--- that says Float32T. Each is the replies to a list of calls on a blank sensor, a set-up first; every buffer has 16 octets.
+-- Worked sessions on a sensor with one channel, range -100 to 10,000, scale 0, C 1, S 0, D 10: all of IntegerT16, but
+-- for the one that says Float32T. Each is the replies to a list of calls on a blank sensor, a set-up first, but for the one
+-- that tells a middle; every buffer has 16 octets.
 use Rattle.std.specs.Prelude.{◌≡◌, ℕ, List, [], ◌∷◌, pos, negsuc, Ok, Err, Result}
 use Rattle.faults.specs.declared.Fault.{Fault}
 use Rattle.faults.specs.declared.Layer.{Layer}
@@ -35,7 +36,8 @@ bench = bench_setup (0xff ∷ 0x9c ∷ []) (0x27 ∷ 0x10 ∷ [])
 abbrev bench_float : Setup (List ℕ)
 bench_float = bench_setup (0xc2 ∷ 0xc8 ∷ 0x00 ∷ 0x00 ∷ []) (0x46 ∷ 0x1c ∷ 0x40 ∷ 0x00 ∷ [])
 
--- a denial told whole: number and layer, the place of the object that it concerns, and the octets of the negative response
+-- a denial told whole: number and layer, the place of the object that it concerns, and the octets of the negative
+-- response
 pub record Refusal : Type 0 where
   pub number : ℕ
   pub layer : Layer
@@ -43,14 +45,12 @@ pub record Refusal : Type 0 where
   pub subindex : ℕ
   pub octets : List ℕ
 
+abbrev refusal : ℕ → Layer → ℕ → ℕ → List ℕ → Refusal
+refusal number layer index subindex octets =
+    record { number = number; layer = layer; index = index; subindex = subindex; octets = octets }
+
 abbrev refusal_of : Fault → List ℕ → Refusal
-refusal_of f octets = record {
-  number = (entry f.denial).number;
-  layer = (entry f.denial).layer;
-  index = f.index;
-  subindex = f.subindex;
-  octets = octets;
-}
+refusal_of f octets = refusal (entry f.denial).number (entry f.denial).layer f.place.index f.place.subindex octets
 
 -- a reply; one that denies is told as its refusal
 abbrev told : Reply → Result Reply Refusal
@@ -70,7 +70,7 @@ replies_from m s (c ∷ calls) = told (reply m s c) ∷ replies_from m (next m s
 abbrev replies : {V : Type 0} → Meaning V → List Call → List (Result Reply Refusal)
 replies m = replies_from m blank
 
--- a write of 1,000, which a read shows; 10,000 is taken, and shown; 10,001 is above the range
+-- a write of 1,000, which a read shows; then 10,000, the range's high end, is taken, and shown
 abbrev WritesSP1 : Type 0
 WritesSP1 =
     replies int16 (set_up bench
@@ -78,14 +78,24 @@ WritesSP1 =
     ∷ request (0xa4 ∷ 0x3c ∷ 0x01 ∷ 0x99 ∷ []) 16
     ∷ request (0x26 ∷ 0x3c ∷ 0x01 ∷ 0x27 ∷ 0x10 ∷ 0x2c ∷ []) 16
     ∷ request (0xa4 ∷ 0x3c ∷ 0x01 ∷ 0x99 ∷ []) 16
-    ∷ request (0x26 ∷ 0x3c ∷ 0x01 ∷ 0x27 ∷ 0x11 ∷ 0x2d ∷ []) 16
     ∷ [])
     ≡ done []
     ∷ done (0x52 ∷ 0x52 ∷ [])
     ∷ done (0xd4 ∷ 0x03 ∷ 0xe8 ∷ 0x3f ∷ [])
     ∷ done (0x52 ∷ 0x52 ∷ [])
     ∷ done (0xd4 ∷ 0x27 ∷ 0x10 ∷ 0xe3 ∷ [])
-    ∷ Err (record { number = 18; layer = Layer.Value; index = 60; subindex = 1; octets = 0x44 ∷ 0x80 ∷ 0x31 ∷ 0xf5 ∷ [] })
+    ∷ []
+
+-- 10,001 is above the range, and SP1 is as it was
+abbrev DeniesAboveTheRange : Type 0
+DeniesAboveTheRange =
+    replies int16 (set_up bench
+    ∷ request (0x26 ∷ 0x3c ∷ 0x01 ∷ 0x27 ∷ 0x11 ∷ 0x2d ∷ []) 16
+    ∷ request (0xa4 ∷ 0x3c ∷ 0x01 ∷ 0x99 ∷ []) 16
+    ∷ [])
+    ≡ done []
+    ∷ Err (refusal 18 Layer.Value 60 1 (0x44 ∷ 0x80 ∷ 0x31 ∷ 0xf5 ∷ []))
+    ∷ done (0xd4 ∷ 0xff ∷ 0x9c ∷ 0xb7 ∷ [])
     ∷ []
 
 -- Teach SP1: busy, then taught by the sample
@@ -104,16 +114,24 @@ TeachesSP1 =
     ∷ done (0xd3 ∷ 0x01 ∷ 0xd2 ∷ [])
     ∷ []
 
--- Stop in Idle, and an index that is not there
+-- Stop in Idle
 abbrev DeniesStop : Type 0
 DeniesStop =
     replies int16 (set_up bench
     ∷ request (0x14 ∷ 0x02 ∷ 0x48 ∷ 0x5e ∷ []) 16
+    ∷ [])
+    ≡ done []
+    ∷ Err (refusal 21 Layer.Teach 2 0 (0x44 ∷ 0x80 ∷ 0x36 ∷ 0xf2 ∷ []))
+    ∷ []
+
+-- an index that is not there
+abbrev DeniesNoIndex : Type 0
+DeniesNoIndex =
+    replies int16 (set_up bench
     ∷ request (0x93 ∷ 0x63 ∷ 0xf0 ∷ []) 16
     ∷ [])
     ≡ done []
-    ∷ Err (record { number = 21; layer = Layer.Teach; index = 2; subindex = 0; octets = 0x44 ∷ 0x80 ∷ 0x36 ∷ 0xf2 ∷ [] })
-    ∷ Err (record { number = 11; layer = Layer.Access; index = 99; subindex = 0; octets = 0xc4 ∷ 0x80 ∷ 0x11 ∷ 0x55 ∷ [] })
+    ∷ Err (refusal 11 Layer.Access 99 0 (0xc4 ∷ 0x80 ∷ 0x11 ∷ 0x55 ∷ []))
     ∷ []
 
 -- SP1 1,000, hysteresis 5: off, on, on, off
@@ -235,7 +253,7 @@ DeniesNotANumber =
     ∷ request (0xa4 ∷ 0x3c ∷ 0x01 ∷ 0x99 ∷ []) 16
     ∷ [])
     ≡ done []
-    ∷ Err (record { number = 17; layer = Layer.Value; index = 60; subindex = 1; octets = 0x44 ∷ 0x80 ∷ 0x30 ∷ 0xf4 ∷ [] })
+    ∷ Err (refusal 17 Layer.Value 60 1 (0x44 ∷ 0x80 ∷ 0x30 ∷ 0xf4 ∷ []))
     ∷ done (0x52 ∷ 0x52 ∷ [])
     ∷ done (0xd6 ∷ 0x44 ∷ 0x7a ∷ 0x00 ∷ 0x00 ∷ 0xe8 ∷ [])
     ∷ []
@@ -244,8 +262,10 @@ DeniesNotANumber =
 abbrev pub Sessions : Type 0
 Sessions =
     WritesSP1
+    × DeniesAboveTheRange
     × TeachesSP1
     × DeniesStop
+    × DeniesNoIndex
     × SwitchesSinglePoint
     × SwitchesWindow
     × FailsTooClose

@@ -2,17 +2,18 @@
 ghost use Rattle.days.specs.Told.{called, counted_told, numbered, plainly_told, responded_told, sensor_of};
 ghost use Rattle.octets.specs.Buffers.{over};
 ghost use Rattle.sensor.specs.Calls.{close_keypad, open_keypad, write_keypad};
-ghost use Rattle.sensor.specs.Rules.{blank as blank_sensor, channels_of, keypad_open, next, reply, serial as serial_number, written};
+ghost use Rattle.sensor.specs.Rules.{blank as blank_sensor, channels_of, keypad_open, next, reply, written};
+ghost use Rattle.sensor.specs.Rules.{serial as serial_number};
 ghost use Rattle.std.specs.Prelude.{◌≡◌, length, is_err, IfErr, IfOk};
 
 use super::BenchSensor;
 use crate::call::{Call, Reply};
 use crate::tickets::{give_back, keep, spare};
-use channels::row::Row;
+use channels::Row;
 use faults::Fault;
-use kinds::kind::Kind;
-use sensor::keypad::Unclosed;
-use sensor::sensor::Sensor;
+use keypad::Unclosed;
+use kinds::Kind;
+use sensor::Sensor;
 
 // The reply of a call that writes nothing.
 fn plainly(answer: Result<(), Fault>) -> Reply<usize>
@@ -48,7 +49,7 @@ fn responded(answer: Result<usize, Fault>) -> Reply<usize>
 }
 
 impl<K: Kind> BenchSensor<K> {
-    // A sensor that is not set up.
+    /// A sensor that is not set up.
     pub const fn blank() -> BenchSensor<K>
         ensures { sensor_of result ≡ blank_sensor }
     {
@@ -58,7 +59,7 @@ impl<K: Kind> BenchSensor<K> {
         }
     }
 
-    // Puts a sensor on the bench. One that has a keypad operation open is handed back, as its ticket is elsewhere.
+    /// Puts a sensor on the bench. One that has a keypad operation open is handed back, as its ticket is elsewhere.
     pub fn of(sensor: Sensor<K>) -> Result<BenchSensor<K>, Sensor<K>>
         ensures taken { IfOk result (λ bench. sensor_of bench ≡ sensor) }
         ensures handed_back { IfErr result (λ back. back ≡ sensor) }
@@ -88,10 +89,12 @@ impl<K: Kind> BenchSensor<K> {
         }
     }
 
-    // Writes under a ticket of this serial number, which a spare sensor gives and takes back.
+    // Writes under a ticket of this serial number, which a spare keypad gives and takes back.
     fn write(&mut self, serial: u32, channel: u8, setpoint: u8, octets: &[u8]) -> Reply<usize>
-        ensures reply { result ≡ numbered (reply K.meaning (sensor_of self.old) (write_keypad serial channel setpoint octets.now)) }
-        ensures sensor { sensor_of self.new ≡ next K.meaning (sensor_of self.old) (write_keypad serial channel setpoint octets.now) }
+        ensures reply { result
+            ≡ numbered (reply K.meaning (sensor_of self.old) (write_keypad serial channel setpoint octets.now)) }
+        ensures sensor { sensor_of self.new
+            ≡ next K.meaning (sensor_of self.old) (write_keypad serial channel setpoint octets.now) }
     {
         let (spare, ticket) = spare(serial);
         let answer = self.sensor.keypad_write(&ticket, channel, setpoint, octets);
@@ -99,8 +102,8 @@ impl<K: Kind> BenchSensor<K> {
         plainly(answer)
     }
 
-    // Closes with a ticket of this serial number, which a spare sensor gives. Where the sensor takes it, the spare one takes the
-    // ticket that was kept; where it is handed back, the spare one takes it.
+    // Closes with a ticket of this serial number, which a spare keypad gives. Where the sensor takes it, the spare one
+    // takes the ticket that was kept; where it is handed back, the spare one takes it.
     fn close(&mut self, serial: u32) -> Reply<usize>
         ensures reply { result ≡ numbered (reply K.meaning (sensor_of self.old) (close_keypad serial)) }
         ensures sensor { sensor_of self.new ≡ next K.meaning (sensor_of self.old) (close_keypad serial) }
@@ -120,11 +123,25 @@ impl<K: Kind> BenchSensor<K> {
         }
     }
 
-    // Makes one call, with lent octets and into a lent buffer. The reply tells how many octets were written to its front.
+    /// Makes one call, with lent octets and into a lent buffer. The reply tells how many octets were written over the
+    /// front of the buffer: those of process data or of a response, the four of a negative response, else none. Octets
+    /// past them stay. A keypad write and a closing have a ticket of the serial number that the call tells, whether
+    /// such a ticket was given or not.
+    ///
+    /// The denials are those of the call of `Sensor`, in the order of its checks. A denied call changes nothing of the
+    /// sensor, and writes nothing but the negative response to a request that draws 11 to 21.
+    /// - set-up: 1, 2, 17, 3, 4
+    /// - sample: 5, 17, 6
+    /// - request: 5, 7, 8, 9, 10, then 11 to 16, then 17 to 19 of values and 20, 21 of a command
+    /// - opening: 5, 22, 23
+    /// - keypad write: 5, 24, 25, 26, 17, 18, 19
+    /// - closing: 5, 24, 25
+    /// - warm restart: 5
     pub fn make(&mut self, call: Call<&[u8]>, out: &mut [u8]) -> Reply<usize>
         ensures reply { result ≡ numbered (reply K.meaning (sensor_of self.old) (called call.entry (length out.old))) }
         ensures sensor { sensor_of self.new ≡ next K.meaning (sensor_of self.old) (called call.entry (length out.old)) }
-        ensures buffer { out.new ≡ over (written K.meaning (sensor_of self.old) (called call.entry (length out.old))) out.old }
+        ensures buffer { out.new
+            ≡ over (written K.meaning (sensor_of self.old) (called call.entry (length out.old))) out.old }
     {
         match call {
             Call::SetUp(setup) => plainly(self.sensor.set_up(&setup)),
@@ -139,14 +156,14 @@ impl<K: Kind> BenchSensor<K> {
         }
     }
 
-    // The channels, channel 1 first; none on a blank sensor.
+    /// The channels that are present, channel 1 first; none on a blank sensor.
     pub fn channels(&self) -> &[Row<K>]
         ensures { result.now ≡ channels_of (sensor_of self.now) }
     {
         self.sensor.channels()
     }
 
-    // Takes the sensor off the bench. An operation that is open is closed with its ticket.
+    /// Takes the sensor off the bench. An operation that is open is closed with its ticket.
     pub fn end(self) -> Sensor<K>
         ensures { result ≡ next K.meaning (sensor_of self) (close_keypad (serial_number (sensor_of self))) }
     {

@@ -5,9 +5,9 @@ ghost use Rattle.numbers.specs.Floats as Floats;
 ghost use Rattle.std.specs.Float.{binary32};
 ghost use Rattle.std.proofs.Common.{inr};
 ghost use Rattle.numbers.specs.Floats.{rank};
-ghost use Rattle.numbers.specs.Octets.{four};
+ghost use Rattle.octets.specs.Numbers.{four};
 ghost use Rattle.numbers.proofs.Moves;
-ghost use Rattle.numbers.proofs.Octets.{four_sound};
+ghost use Rattle.octets.proofs.Numbers.{four_sound};
 ghost use Rattle.numbers.proofs.Options.{some_of};
 ghost use Rattle.kinds.specs.Same.{same_float};
 ghost use Rattle.kinds.specs.Ranks.{floats_ranked};
@@ -28,11 +28,11 @@ fn halfway(x: f32, y: f32) -> f32
     ensures { result ≡ Floats.middle x y }
 {
     let sum = x * 0.5 + y * 0.5;
-    numbers::plain(numbers::between(sum, numbers::lower_of(x, y), numbers::higher_of(x, y)))
+    numbers::plain(numbers::between(sum, numbers::lesser(x, y), numbers::greater(x, y)))
 }
 
-// Whether a bit pattern lies below infinity's, whatever its sign. The pattern is asked, as `f32::is_finite` comes too late:
-// `f32::from_bits` is given no pattern of a NaN.
+// Whether a bit pattern lies below infinity's, whatever its sign. The pattern is asked, as `f32::is_finite` comes too
+// late: `f32::from_bits` is given no pattern of a NaN.
 fn is_finite(pattern: u32) -> bool
     ensures { result ≡ nat_lt (pattern % 2 ^ 31) (255 * 2 ^ 23) }
 {
@@ -116,7 +116,7 @@ impl Kind for Float32T {
     }
 
     fn read(octets: &[u8]) -> Option<Float32T> {
-        value_of(numbers::from_four(octets)?)
+        value_of(octets::from_four(octets)?)
     }
 
     fn write(self, out: &mut [u8]) -> Option<usize> {

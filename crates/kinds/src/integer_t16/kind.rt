@@ -3,15 +3,15 @@ ghost use Rattle.kinds.specs.IntegerT16.{integer_t16};
 ghost use Rattle.kinds.specs.Integers.{integers, step};
 ghost use Rattle.std.specs.Prelude.{refl};
 ghost use Rattle.std.proofs.Common.{inl};
-ghost use Rattle.numbers.proofs.Octets.{two_sound};
+ghost use Rattle.octets.proofs.Numbers.{two_sound};
 ghost use Rattle.kinds.specs.IntegersLemmas as Integers;
 ghost use Rattle.kinds.specs.Same.{same_t16};
 
 use crate::integer_t16::IntegerT16;
 use crate::kind::Kind;
 
-// The two integers have an impl each: limits, substitutes and the wider word differ, and a trait over i16 and i32 that gives
-// these has as many lines.
+// The two integers have an impl each: limits, substitutes and the wider word differ, and a trait over i16 and i32 that
+// gives these has as many lines.
 impl Kind for IntegerT16 {
     const OCTET_WIDTH: usize = 2;
 
@@ -58,7 +58,7 @@ impl Kind for IntegerT16 {
     }
 
     fn read(octets: &[u8]) -> Option<IntegerT16> {
-        let pattern = numbers::from_two(octets)?;
+        let pattern = octets::from_two(octets)?;
         Some(IntegerT16 {
             value: pattern.cast_signed(),
         })

@@ -3,15 +3,15 @@ ghost use Rattle.kinds.specs.IntegerT32.{integer_t32};
 ghost use Rattle.kinds.specs.Integers.{integers, step};
 ghost use Rattle.std.specs.Prelude.{refl};
 ghost use Rattle.std.proofs.Common.{inr};
-ghost use Rattle.numbers.proofs.Octets.{four_sound};
+ghost use Rattle.octets.proofs.Numbers.{four_sound};
 ghost use Rattle.kinds.specs.IntegersLemmas as Integers;
 ghost use Rattle.kinds.specs.Same.{same_t32};
 
 use crate::integer_t32::IntegerT32;
 use crate::kind::Kind;
 
-// The two integers have an impl each: limits, substitutes and the wider word differ, and a trait over i16 and i32 that gives
-// these has as many lines.
+// The two integers have an impl each: limits, substitutes and the wider word differ, and a trait over i16 and i32 that
+// gives these has as many lines.
 impl Kind for IntegerT32 {
     const OCTET_WIDTH: usize = 4;
 
@@ -62,7 +62,7 @@ impl Kind for IntegerT32 {
     }
 
     fn read(octets: &[u8]) -> Option<IntegerT32> {
-        let pattern = numbers::from_four(octets)?;
+        let pattern = octets::from_four(octets)?;
         Some(IntegerT32 {
             value: pattern.cast_signed(),
         })

@@ -1,7 +1,5 @@
 use Rattle.std.proofs.Common.{sym, ap, ◌∙◌, subst}
-use Rattle.kinds.specs.IntegerT16.{integer_t16}
-use Rattle.kinds.specs.Integers.{integers}
-use Rattle.sensor.specs.Keypad.{serial_of}
+use Rattle.keypad.specs.Operations.{serial_of}
 use Rattle.days.specs.Kept.{TakesBack, due}
 use Rattle.days.proofs.Keeping.{closed_serial, closing, not_closed}
 use Rattle.days.proofs.Replies.{closed_told, unclosed_told}
@@ -17,9 +15,9 @@ pub give_back-requires : goal.give_back-requires
 give_back-requires g c =
     let bears = ap serial_of c.spare.ensures.ticket in
     let own = c.in-Some.ensures.value ∙ c.args.self.now.kept in
-    subst (TakesBack (integers integer_t16) c.spare.result.0)
+    subst (TakesBack c.spare.result.0)
     (closed_serial g.K.Kind.meaning c.args.self.now.sensor c.spare.result.1 c.in-Some.own c.args.serial bears own c.in-Ok.ensures.reply)
-    c.spare.ensures.sensor
+    c.spare.ensures.keypad
 
 pub invariant_of-self-in-Err-1 : goal.invariant_of-self-in-Err-1
 invariant_of-self-in-Err-1 g c = record {
@@ -32,7 +30,7 @@ pub give_back-requires-in-Err : goal.give_back-requires-in-Err
 give_back-requires-in-Err g c =
     let same = (not_closed g.K.Kind.meaning c.args.self.now.sensor c.close_keypad.new.self c.args.self.now.ticket c.spare.result.1 c.in-Err.field-0
     c.args.self.now.kept c.in-Err.ensures.reply c.close_keypad.ensures.sensor).1 in
-    subst (TakesBack (integers integer_t16) c.spare.result.0) (sym (ap serial_of (same ∙ c.spare.ensures.ticket))) c.spare.ensures.sensor
+    subst (TakesBack c.spare.result.0) (sym (ap serial_of (same ∙ c.spare.ensures.ticket))) c.spare.ensures.keypad
 
 pub returns-in-Some-clause-reply : goal.returns-in-Some-clause-reply
 returns-in-Some-clause-reply g c =

@@ -1,6 +1,6 @@
 use Rattle.std.proofs.Common.{ℕ, ap}
 use Rattle.sensor.specs.Calls.{write_keypad}
-use Rattle.sensor.specs.Keypad.{serial_of}
+use Rattle.keypad.specs.Operations.{serial_of}
 use Rattle.days.proofs.Keeping.{stays}
 use Rattle.days.proofs.Replies.{plain_told}
 use Rattle.days.proofs.bench.BenchSensor.write.Goals as goal

@@ -43,10 +43,10 @@ returns-in_err-write-in-Write g c =
     let f = c.in_err-write-in-Write.field-0.0 in
     let comes = λ (y : Result (Access (List ℕ)) Fault). carried m d (then y (access_asked m d (place_of a))) in
     let to =
-    ap (λ p. carried m d (write_asked m d p w)) c.place.ensures
+    ap (λ p. carried m d (write_asked m d p w)) c.place_of.ensures
     ∙ ap (λ z. comes (Ok (lent_access z))) (sym c.in-Write.is)
     ∙ ap comes c.in_ok-shown.ensures.access in
-    let denied = sym (plain_denied (carried m d (write_asked m d c.place.result w)) f c.in_err-write-in-Write.ensures.reply) ∙ to in
+    let denied = sym (plain_denied (carried m d (write_asked m d c.place_of.result w)) f c.in_err-write-in-Write.ensures.reply) ∙ to in
     let p = err_from_is_err_and c.from_residual-in_err-write-in-Write.result c.from_residual-in_err-write-in-Write.ensures.1 in
     record {
       reply = p.1 ∙ ap Err p.2 ∙ ap (λ x. counted (granted_by x) x) denied;
@@ -65,10 +65,10 @@ returns-in_ok-write-in-Write g c =
     let w = lent_written c.in-Write.written in
     let comes = λ (y : Result (Access (List ℕ)) Fault). carried m d (then y (access_asked m d (place_of a))) in
     let to =
-    ap (λ p. carried m d (write_asked m d p w)) c.place.ensures
+    ap (λ p. carried m d (write_asked m d p w)) c.place_of.ensures
     ∙ ap (λ z. comes (Ok (lent_access z))) (sym c.in-Write.is)
     ∙ ap comes c.in_ok-shown.ensures.access in
-    let done = write_done (carried m d (write_asked m d c.place.result w)) c.in_ok-write-in-Write.ensures.reply (write_writes m d c.place.result w) in
+    let done = write_done (carried m d (write_asked m d c.place_of.result w)) c.in_ok-write-in-Write.ensures.reply (write_writes m d c.place_of.result w) in
     let whole : c.confirm_write.result ≡ Ok (length write_reply) = c.confirm_write.ensures.answer ∙ write_confirmed (length out) c.requires in
     record {
       reply = whole ∙ sym done.1 ∙ ap (λ x. counted (granted_by x) x) to;

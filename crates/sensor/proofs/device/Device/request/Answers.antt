@@ -6,20 +6,20 @@ use Rattle.faults.specs.Denials.{entry, fault, then}
 use Rattle.isdu.specs.Decoding.{decoded}
 use Rattle.isdu.specs.Views.{asks}
 use Rattle.sensor.specs.Answers.{ShowsOneToEight, counted}
-use Rattle.sensor.specs.Requests.{asked_of, negative, refused}
+use Rattle.sensor.specs.Requests.{asked_of, negative, refused, response_room}
 use Rattle.sensor.specs.Rules.{carried, device_by, granted_by, request_written}
 use Rattle.sensor.proofs.Responses.{fault_counted, granted_written, short_silent}
 use Rattle.sensor.proofs.device.Device.request.Goals as goal
 
 -- the buffer is too short
-pub returns-then-out-lt16 : goal.returns-then-out-lt16
-returns-then-out-lt16 g c =
+pub returns-then-out-lt-RESPONSE_ROOM : goal.returns-then-out-lt-RESPONSE_ROOM
+returns-then-out-lt-RESPONSE_ROOM g c =
     let m = g.K.Kind.meaning in
     let d = c.args.self.now in
     let out = c.args.out.now in
     let frame = decoded c.args.frame.now in
     let e =
-    ap (λ (b : Bool). carried m d (cond b (Err (fault ResponseBuffer)) (then frame (asked_of m d)))) (sym (lt-ltb (length out) 16 c.if-out-lt16.true)) in
+    ap (λ (b : Bool). carried m d (cond b (Err (fault ResponseBuffer)) (then frame (asked_of m d)))) (sym (lt-ltb (length out) response_room c.if-out-lt-RESPONSE_ROOM.true)) in
     record {
       reply = ap Err c.of.ensures ∙ ap (λ x. counted (request_written frame x) x) e;
       device = ap (device_by m d) e;
@@ -39,7 +39,7 @@ returns-in_err-request g c =
     let none : Err f ≡ frame = c.in_err-request.ensures.value in
     let e =
     ap (λ r. carried m d (then r (asked_of m d))) none
-    ∙ ap (λ (b : Bool). carried m d (cond b (Err (fault ResponseBuffer)) (then frame (asked_of m d)))) (sym (le-ltb (length out) 16 c.if-out-lt16.false)) in
+    ∙ ap (λ (b : Bool). carried m d (cond b (Err (fault ResponseBuffer)) (then frame (asked_of m d)))) (sym (le-ltb (length out) response_room c.if-out-lt-RESPONSE_ROOM.false)) in
     record {
       reply = p.1 ∙ ap Err p.2 ∙ ap (λ x. counted (request_written frame x) x) e;
       device = ap (device_by m d) e;
@@ -59,7 +59,7 @@ returns-in-Ok g c =
     let is : Ok a ≡ frame = c.in_ok-request.ensures.value in
     let e =
     ap (λ r. carried m d (then r (asked_of m d))) is
-    ∙ ap (λ (b : Bool). carried m d (cond b (Err (fault ResponseBuffer)) (then frame (asked_of m d)))) (sym (le-ltb (length out) 16 c.if-out-lt16.false)) in
+    ∙ ap (λ (b : Bool). carried m d (cond b (Err (fault ResponseBuffer)) (then frame (asked_of m d)))) (sym (le-ltb (length out) response_room c.if-out-lt-RESPONSE_ROOM.false)) in
     let whole = granted_written a x₀ c.in-Ok.n c.in-Ok.ensures.reply in
     record {
       reply =
@@ -89,7 +89,7 @@ returns-in-Err g c =
     let is : Ok a ≡ frame = c.in_ok-request.ensures.value in
     let e =
     ap (λ r. carried m d (then r (asked_of m d))) is
-    ∙ ap (λ (b : Bool). carried m d (cond b (Err (fault ResponseBuffer)) (then frame (asked_of m d)))) (sym (le-ltb (length out) 16 c.if-out-lt16.false)) in
+    ∙ ap (λ (b : Bool). carried m d (cond b (Err (fault ResponseBuffer)) (then frame (asked_of m d)))) (sym (le-ltb (length out) response_room c.if-out-lt-RESPONSE_ROOM.false)) in
     let denied = fault_counted x₀ (granted_by x₀) f c.in-Err.ensures.reply in
     record {
       reply = c.deny.ensures.reply ∙ ap (λ x. counted (request_written frame x) x) (sym denied ∙ e);

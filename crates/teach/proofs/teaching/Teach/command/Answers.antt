@@ -6,7 +6,7 @@ use Rattle.faults.specs.Denials.{then}
 use Rattle.teach.specs.declared.teaching.Teach.{Teach}
 use Rattle.teach.specs.Machine.{Moved, effect_by, row_checked, state_by}
 use Rattle.teach.specs.Teaching.{row_in, store_by, teach_by, with_state}
-use Rattle.teach.proofs.Laws.{stores_within as within}
+use Rattle.teach.proofs.Laws.{evaluates_within as within}
 use Rattle.teach.proofs.teaching.Teach.command.Goals as goal
 
 module _ {V : Type 0} (place : Place) (t : Teach V) where
@@ -16,8 +16,8 @@ module _ {V : Type 0} (place : Place) (t : Teach V) where
   denied None f h = (cc, refl)
   denied (Some x) f h = cc
 
-pub returns-in_err-command-clause-stores_within : goal.returns-in_err-command-clause-stores_within
-returns-in_err-command-clause-stores_within g c = within g.K.Kind.meaning g.met.K.Kind.lawful c.args.terms
+pub returns-in_err-command-clause-evaluates_within : goal.returns-in_err-command-clause-evaluates_within
+returns-in_err-command-clause-evaluates_within g c = within g.K.Kind.meaning g.met.K.Kind.lawful c.args.terms
 
 pub returns-in_err-effect-clause-reply : goal.returns-in_err-effect-clause-reply
 returns-in_err-effect-clause-reply g c =
@@ -36,8 +36,8 @@ returns-in_err-effect-clause-teach g c =
     let k = ap (λ x. teach_by t (then x (λ y. row_checked c.args.place (row_in m c.args.terms t y)))) c.in_ok-command.ensures in
     cc
 
-pub returns-in_err-effect-clause-stores_within : goal.returns-in_err-effect-clause-stores_within
-returns-in_err-effect-clause-stores_within g c = within g.K.Kind.meaning g.met.K.Kind.lawful c.args.terms
+pub returns-in_err-effect-clause-evaluates_within : goal.returns-in_err-effect-clause-evaluates_within
+returns-in_err-effect-clause-evaluates_within g c = within g.K.Kind.meaning g.met.K.Kind.lawful c.args.terms
 
-pub returns-clause-stores_within : goal.returns-clause-stores_within
-returns-clause-stores_within g c = within g.K.Kind.meaning g.met.K.Kind.lawful c.args.terms
+pub returns-clause-evaluates_within : goal.returns-clause-evaluates_within
+returns-clause-evaluates_within g c = within g.K.Kind.meaning g.met.K.Kind.lawful c.args.terms
