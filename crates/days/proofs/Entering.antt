@@ -16,22 +16,27 @@ channels_told : {V : Type 0} (rows : List (Row V)) → map channel_told (map cha
 channels_told [] = refl
 channels_told (r ∷ rows) = ap (λ rest. with_signal r ∷ rest) (channels_told rows)
 
-pub channels_shown : {V : Type 0} (s t : Sensor V) (channels : List (Channel V)) → channels ≡ map channel_of (channels_of s) → s ≡ t
+pub channels_shown : {V : Type 0} (s t : Sensor V) (channels : List (Channel V))
+    → channels ≡ map channel_of (channels_of s) → s ≡ t
     → map channel_told channels ≡ map with_signal (channels_of t)
-channels_shown s t channels e i = ap (map channel_told) e ∙ channels_told (channels_of s) ∙ ap (λ x. map with_signal (channels_of x)) i
+channels_shown s t channels e i = ap (map channel_told) e ∙ channels_told (channels_of s)
+    ∙ ap (λ x. map with_signal (channels_of x)) i
 
 -- the sensor after a call that is known by another name
 pub next_by_name : {V : Type 0} (m : Meaning V) (s t : Sensor V) (c d : Call) → t ≡ next m s c → c ≡ d → t ≡ next m s d
 next_by_name m s t c d e i = e ∙ ap (next m s) i
 
 -- one entry more
-push_told : {A B : Type 0} (f : A → B) (log : List A) (e : A) (rest : List B) → map f (log ++ (e ∷ [])) ++ rest ≡ map f log ++ (f e ∷ rest)
+push_told : {A B : Type 0} (f : A → B) (log : List A) (e : A) (rest : List B) → map f (log ++ (e ∷ []))
+    ++ rest ≡ map f log ++ (f e ∷ rest)
 push_told f [] e rest = refl
 push_told f (x ∷ log) e rest = ap (λ z. f x ∷ z) (push_told f log e rest)
 
-pub entered : {V : Type 0} (m : Meaning V) (s t : Sensor V) (log pushed : List (Entry V)) (e : Entry V) (line : Line) (left : List Line) → pushed ≡ log ++ (e ∷ [])
+pub entered : {V : Type 0} (m : Meaning V) (s t : Sensor V) (log pushed : List (Entry V)) (e : Entry V) (line : Line)
+    (left : List Line) → pushed ≡ log ++ (e ∷ [])
     → entry_told e ≡ entry_of m s (call_of line) → t ≡ next m s (call_of line)
-    → map entry_told pushed ++ entries m t (map call_of left) ≡ map entry_told log ++ entries m s (map call_of (line ∷ left))
+    → map entry_told pushed ++ entries m t (map call_of left) ≡ map entry_told log
+    ++ entries m s (map call_of (line ∷ left))
 entered m s t log pushed e line left i told new =
     ap (λ z. map entry_told z ++ entries m t (map call_of left)) i
     ∙ push_told entry_told log e (entries m t (map call_of left))

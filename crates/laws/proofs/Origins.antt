@@ -1,9 +1,12 @@
 -- Where what a call does comes from: the set-up, the teach's row or the fed value, and the checks that it passed.
-use Rattle.std.proofs.Common.{◌≡◌, ℕ, ◌≤◌, max, Bool, true, false, cond, not, ltb, leb, List, [], ◌∷◌, Some, None, Ok, Err, Option, Result, sym, refl, ap, subst, arith}
+use Rattle.std.proofs.Common.{◌≡◌, ℕ, ◌≤◌, max, Bool, true, false, cond, not, ltb, leb, List, [], ◌∷◌, Some, None, Ok}
+use Rattle.std.proofs.Common.{Err, Option, Result, sym, refl, ap, subst, arith}
 use Rattle.std.proofs.lemmas.Bool.{and_from, and_parts, le-leb, leb-true, ltb-false}
 use Rattle.faults.specs.declared.Fault.{Fault}
 use Rattle.faults.specs.declared.Place.{Place}
-use Rattle.faults.specs.declared.Denial.TheVariants.{AlreadyOpen, Blank, BufferTooShort, CaptureLength, ChannelCount, NoValue, NotInState, Range, ResponseBuffer, SetupUnderKeypad, TeachRunning}
+use Rattle.faults.specs.declared.Denial.TheVariants.{AlreadyOpen, Blank, BufferTooShort, CaptureLength, ChannelCount}
+use Rattle.faults.specs.declared.Denial.TheVariants.{NoValue, NotInState, Range, ResponseBuffer, SetupUnderKeypad}
+use Rattle.faults.specs.declared.Denial.TheVariants.{TeachRunning}
 use Rattle.faults.specs.Denials.{fault, fault_at, then}
 use Rattle.isdu.specs.Decoding.{decoded}
 use Rattle.kinds.specs.Meaning.{Meaning}
@@ -23,7 +26,10 @@ use Rattle.objects.specs.Writes.{settings_checked}
 use Rattle.sensor.specs.declared.device.Device.{Device}
 use Rattle.sensor.specs.declared.sensor.Sensor.{Sensor}
 use Rattle.sensor.specs.declared.setup.Setup.{Setup}
-use Rattle.sensor.specs.Calls.{Call, set_up, sample, request, open_keypad, write_keypad, close_keypad, restart, Order, to_start, to_sample, to_show, to_select, to_command, to_write, to_open, to_close, to_restart, Act, starts, samples, shows, selects, commands, writes, opens, closes, restarts}
+use Rattle.sensor.specs.Calls.{Call, set_up, sample, request, open_keypad, write_keypad, close_keypad, restart, Order}
+use Rattle.sensor.specs.Calls.{to_start, to_sample, to_show, to_select, to_command, to_write, to_open, to_close}
+use Rattle.sensor.specs.Calls.{to_restart, Act, starts, samples, shows, selects, commands, writes, opens, closes}
+use Rattle.sensor.specs.Calls.{restarts}
 use Rattle.sensor.specs.Devices.{setpoint_setting}
 use Rattle.keypad.specs.Operations.{opening_checked, ticket_checked}
 use Rattle.sensor.specs.Keypad.{keypad_checked}
@@ -39,11 +45,13 @@ pub err_ok : {A : Type 0} (f : Fault) (a : A) → ◌≡◌ {A = Result A Fault}
 err_ok f a e = cc
 
 -- a chain of checks that is passed passes each
-pub passed : {A B : Type 0} (x : Result A Fault) (f : A → Result B Fault) (b : B) → then x f ≡ Ok b → (a : A) × (x ≡ Ok a) × (f a ≡ Ok b)
+pub passed : {A B : Type 0} (x : Result A Fault) (f : A → Result B Fault) (b : B) → then x f ≡ Ok b → (a : A)
+    × (x ≡ Ok a) × (f a ≡ Ok b)
 passed (Ok a) f b e = (a, refl, e)
 passed (Err d) f b e = absurd (err_ok d b e)
 
-pub past_test : {A : Type 0} (t : Bool) (f : Fault) (x : Result A Fault) (a : A) → cond t (Err f) x ≡ Ok a → (t ≡ false) × (x ≡ Ok a)
+pub past_test : {A : Type 0} (t : Bool) (f : Fault) (x : Result A Fault) (a : A) → cond t (Err f) x ≡ Ok a → (t ≡ false)
+    × (x ≡ Ok a)
 past_test true f x a e = absurd (err_ok f a e)
 past_test false f x a e = (refl, e)
 
@@ -55,8 +63,8 @@ at_least first last n e = leb-true first n (and_parts (leb first n) (leb n last)
     go true e = refl
     go false e = sym e
 
--- the device that a set-up gives: its teach is idle, its first channel selected, its channels fresh and at least one, and a
--- capture takes at least one value
+-- the device that a set-up gives: its teach is idle, its first channel selected, its channels fresh and at least one,
+-- and a capture takes at least one value
 pub record Fresh {V : Type 0} (e : Device V) : Type 0 where
   pub teach : e.teach ≡ idle
   pub selected : e.selected ≡ 1
@@ -71,12 +79,16 @@ module _ {V : Type 0} (m : Meaning V) where
   set_up_fresh : (keypad : Bool) (g : Setup (List ℕ)) (e : Device V) → set_up_checked m keypad g ≡ Ok e → Fresh e
   set_up_fresh keypad g e i =
       let ends : Result (Ranges.Range V) Fault = ends_checked m (m.read g.range.low) (m.read g.range.high) in
-      let counted = past_test keypad (fault SetupUnderKeypad) (cond (not (from_to 1 most_channels g.channels)) (Err (fault ChannelCount)) (then ends (range_checked m g))) e i in
-      let read = past_test (not (from_to 1 most_channels g.channels)) (fault ChannelCount) (then ends (range_checked m g)) e counted.1 in
+      let counted = past_test keypad (fault SetupUnderKeypad)
+      (cond (not (from_to 1 most_channels g.channels)) (Err (fault ChannelCount)) (then ends (range_checked m g))) e
+      i in
+      let read = past_test (not (from_to 1 most_channels g.channels)) (fault ChannelCount)
+      (then ends (range_checked m g)) e counted.1 in
       let ranged = passed ends (range_checked m g) e read.1 in
       let r : Ranges.Range V = ranged.0 in
       let fresh-device : Result (Device V) Fault = Ok (fresh_device g r) in
-      let lawful = past_test (not (lawful_range m r)) (fault Range) (cond (not (from_to 1 64 g.terms.capture)) (Err (fault CaptureLength)) fresh-device) e ranged.2 in
+      let lawful = past_test (not (lawful_range m r)) (fault Range)
+      (cond (not (from_to 1 64 g.terms.capture)) (Err (fault CaptureLength)) fresh-device) e ranged.2 in
       let all = past_test (not (from_to 1 64 g.terms.capture)) (fault CaptureLength) fresh-device e lawful.1 in
       let some : 1 ≤ g.channels = at_least 1 most_channels g.channels read.0 in
       let fresh : Fresh (fresh_device g r) = record {
@@ -98,9 +110,11 @@ module _ {V : Type 0} (m : Meaning V) where
   selectable : (t : Table V) (n : ℕ) → ltb (rows_present t) n ≡ false → OrderFact t (to_select (max n 1))
   selectable t n e some =
       let h : n ≤ rows_present t = ltb-false (rows_present t) n e in
-      and_from (leb 1 (max n 1)) (leb (max n 1) (rows_present t)) (le-leb 1 (max n 1) (omega arith)) (le-leb (max n 1) (rows_present t) (omega arith))
+      and_from (leb 1 (max n 1)) (leb (max n 1) (rows_present t)) (le-leb 1 (max n 1) (omega arith))
+      (le-leb (max n 1) (rows_present t) (omega arith))
 
-  write_fact : (d : Device V) (place : Place) (w : Written (List ℕ)) (o : Order V) → write_asked m d place w ≡ Ok o → OrderFact d.channels o
+  write_fact : (d : Device V) (place : Place) (w : Written (List ℕ)) (o : Order V) → write_asked m d place w ≡ Ok o
+      → OrderFact d.channels o
   write_fact d place (Written.Command code) o e = subst (OrderFact d.channels) (ok_same (to_command place code) o e) tt
   write_fact d place (Written.Select n) o e =
       let p = past_test (past_count d n) (fault_at NoValue place) (Ok (to_select (max n 1))) o e in
@@ -109,11 +123,13 @@ module _ {V : Type 0} (m : Meaning V) where
       let p = passed (settings_checked m d.range place.index content) (λ ss. Ok (to_write k ss)) o e in
       subst (OrderFact d.channels) (ok_same (to_write k p.0) o p.2) tt
 
-  access_fact : (d : Device V) (place : Place) (x : Access (List ℕ)) (o : Order V) → access_asked m d place x ≡ Ok o → OrderFact d.channels o
+  access_fact : (d : Device V) (place : Place) (x : Access (List ℕ)) (o : Order V) → access_asked m d place x ≡ Ok o
+      → OrderFact d.channels o
   access_fact d place (Read shown) o e = subst (OrderFact d.channels) (ok_same (to_show shown) o e) tt
   access_fact d place (Write w) o e = write_fact d place w o e
 
-  sample_fact : (d : Device V) (r : Option (Reading V)) (room : ℕ) (o : Order V) → sample_asked m d r room ≡ Ok o → OrderFact d.channels o
+  sample_fact : (d : Device V) (r : Option (Reading V)) (room : ℕ) (o : Order V) → sample_asked m d r room ≡ Ok o
+      → OrderFact d.channels o
   sample_fact d None room o e = absurd (err_ok (fault NoValue) o e)
   sample_fact d (Some r) room o e =
       let s : Order V = to_sample (within m d.range.low d.range.high r) in
@@ -149,11 +165,14 @@ module _ {V : Type 0} (m : Meaning V) where
   Origin d call (selects k) = 1 ≤ rows_present d.channels → has_channel d.channels k ≡ true
   Origin d call a = Unit {0}
 
-  order_origin : (d : Device V) (call : Call) (o : Order V) (a : Act V) → asked m d call ≡ Ok o → performed m d o ≡ Ok a → Origin d call a
-  order_origin d call (to_start f) a i e = subst (Origin d call) (ok_same (starts f) a e) (order_fact d call (to_start f) i)
+  order_origin : (d : Device V) (call : Call) (o : Order V) (a : Act V) → asked m d call ≡ Ok o → performed m d o ≡ Ok a
+      → Origin d call a
+  order_origin d call (to_start f) a i e =
+      subst (Origin d call) (ok_same (starts f) a e) (order_fact d call (to_start f) i)
   order_origin d call (to_sample r) a i e = subst (Origin d call) (ok_same (samples r (heard m d r)) a e) refl
   order_origin d call (to_show shown) a i e = subst (Origin d call) (ok_same (shows (octets_shown m d shown)) a e) tt
-  order_origin d call (to_select k) a i e = subst (Origin d call) (ok_same (selects k) a e) (order_fact d call (to_select k) i)
+  order_origin d call (to_select k) a i e =
+      subst (Origin d call) (ok_same (selects k) a e) (order_fact d call (to_select k) i)
   order_origin d call (to_command place code) a i e =
       let p = passed (commanded m d.terms place d.teach code) (λ x. Ok (commands x)) a e in
       subst (Origin d call) (ok_same (commands p.0) a p.2) tt

@@ -1,5 +1,7 @@
 -- Through every call the selected channel is there, and the table has a row for each channel that there may be.
-use Rattle.std.proofs.Common.{◌≡◌, ℕ, zero, suc, ◌-◌, ◌<◌, ◌≤◌, Bool, true, false, cond, leb, List, [], ◌∷◌, ◌++◌, map, length, take, drop, set, Some, None, Ok, Err, Option, Result, refl, ap, ◌∙◌, arith, length-set}
+use Rattle.std.proofs.Common.{◌≡◌, ℕ, zero, suc, ◌-◌, ◌<◌, ◌≤◌, Bool, true, false, cond, leb, List, [], ◌∷◌, ◌++◌, map}
+use Rattle.std.proofs.Common.{length, take, drop, set, Some, None, Ok, Err, Option, Result, refl, ap, ◌∙◌, arith}
+use Rattle.std.proofs.Common.{length-set}
 use Rattle.std.proofs.lemmas.Bool.{and_from, le-leb}
 use Rattle.faults.specs.declared.Fault.{Fault}
 use Rattle.kinds.specs.Meaning.{Meaning}
@@ -34,7 +36,8 @@ module _ {V : Type 0} where
   set_length true rows k r = simp length-set
   set_length false rows k r = refl
 
-  mapped_length : (f : Row V → Row V) (n : ℕ) (rows : List (Row V)) → length (map f (take n rows) ++ drop n rows) ≡ length rows
+  mapped_length : (f : Row V → Row V) (n : ℕ) (rows : List (Row V))
+      → length (map f (take n rows) ++ drop n rows) ≡ length rows
   mapped_length f zero rows = refl
   mapped_length f (suc n) [] = refl
   mapped_length f (suc n) (r ∷ rows) = ap suc (mapped_length f n rows)
@@ -46,7 +49,8 @@ module _ {V : Type 0} where
       go None = refl
       go (Some r) = set_length (has_channel t k) t.rows (k - 1) _
 
-  given_there : (t : Table V) (j k : ℕ) (ss : List (Setting V)) → has_channel (with_settings_at t j ss) k ≡ has_channel t k
+  given_there : (t : Table V) (j k : ℕ) (ss : List (Setting V))
+      → has_channel (with_settings_at t j ss) k ≡ has_channel t k
   given_there t j k ss = go (row_at t j)
     where
       go : (o : Option (Row V)) → has_channel (on_row t j ss o) k ≡ has_channel t k
@@ -70,7 +74,8 @@ module _ {V : Type 0} where
   nth_there (r ∷ rows) (suc j) h = nth_there rows j (omega arith)
 
   -- a channel that is there has a row
-  pub row_exists : (d : Device V) (k : ℕ) → SoundDevice d → has_channel d.channels k ≡ true → (r : Row V) × (row_at d.channels k ≡ Some r)
+  pub row_exists : (d : Device V) (k : ℕ) → SoundDevice d → has_channel d.channels k ≡ true → (r : Row V)
+      × (row_at d.channels k ≡ Some r)
   row_exists d k s h =
       let p = there d.channels k h in
       let w = nth_there d.channels.rows (k - 1) (omega (arith, s.every_row)) in
@@ -83,12 +88,15 @@ module _ {V : Type 0} where
   }
 
 module _ {V : Type 0} (m : Meaning V) where
-  sound_device : (d : Device V) (c : Call) (x : Result (Act V) Fault) → ((a : Act V) → x ≡ Ok a → Origin m d c a) → SoundDevice d → SoundDevice (device_by m d x)
+  sound_device : (d : Device V) (c : Call) (x : Result (Act V) Fault) → ((a : Act V) → x ≡ Ok a → Origin m d c a)
+      → SoundDevice d → SoundDevice (device_by m d x)
   sound_device d c (Err f) o s = s
   sound_device d c (Ok (starts e)) o s = sound_fresh e (o (starts e) refl)
   sound_device d c (Ok (samples r x)) o s = record {
-    selected_there = stored_there (judged_table m r d.channels) d.selected d.selected (store_of x.effect.verdict) ∙ s.selected_there;
-    every_row = stored_rows (judged_table m r d.channels) d.selected (store_of x.effect.verdict) ∙ mapped_length (judged m r) (rows_present d.channels) d.channels.rows ∙ s.every_row;
+    selected_there = stored_there (judged_table m r d.channels) d.selected d.selected (store_of x.effect.verdict)
+        ∙ s.selected_there;
+    every_row = stored_rows (judged_table m r d.channels) d.selected (store_of x.effect.verdict)
+        ∙ mapped_length (judged m r) (rows_present d.channels) d.channels.rows ∙ s.every_row;
   }
   sound_device d c (Ok (shows octets)) o s = s
   sound_device d c (Ok (selects k)) o s = record {
@@ -110,7 +118,8 @@ module _ {V : Type 0} (m : Meaning V) where
     every_row = mapped_length inactive_row (rows_present d.channels) d.channels.rows ∙ s.every_row;
   }
 
-  sound_by : (o : Option (Device V)) (c : Call) (x : Result (Act V) Fault) → ((a : Act V) → x ≡ Ok a → OriginIn m o c a) → Sound (record { device = o }) → Sound (record { device = next_by m o x })
+  sound_by : (o : Option (Device V)) (c : Call) (x : Result (Act V) Fault) → ((a : Act V) → x ≡ Ok a → OriginIn m o c a)
+      → Sound (record { device = o }) → Sound (record { device = next_by m o x })
   sound_by (Some d) c x o s = sound_device d c x o s
   sound_by None c (Ok (starts e)) o s = sound_fresh e (o (starts e) refl)
   sound_by None c x o s = tt

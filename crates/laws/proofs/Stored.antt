@@ -14,8 +14,10 @@ use Rattle.sensor.specs.declared.device.Device.{Device}
 use Rattle.sensor.specs.Calls.{Call}
 use Rattle.sensor.specs.Rules.{after, blank, checked}
 use Rattle.laws.specs.Events.{verdict_of}
-use Rattle.laws.specs.Stores.{Purpose, StoredWithin, StoresWithinCaptured, captured, captured_with, captures, point, whole}
-use Rattle.laws.specs.Taught.{Evaluation, OfExtremes, OfTaught, Says, StoresUnless, TaughtBy, dynamic, evaluation_of, highest, lowest, none, single, taught, two_value}
+use Rattle.laws.specs.Stores.{Purpose, StoredWithin, StoresWithinCaptured, captured, captured_with, captures, point}
+use Rattle.laws.specs.Stores.{whole}
+use Rattle.laws.specs.Taught.{Evaluation, OfExtremes, OfTaught, Says, StoresUnless, TaughtBy, dynamic, evaluation_of}
+use Rattle.laws.specs.Taught.{highest, lowest, none, single, taught, two_value}
 use Rattle.laws.proofs.Taught.{taught_from_captured}
 
 on_taught : (o : Option Setpoint) (P : Setpoint → Type 0) (R : Type 0) → OfTaught o P → ((sp : Setpoint) → P sp → R) → R
@@ -28,13 +30,16 @@ module _ {V : Type 0} (m : Meaning V) where
 
   lowest_in : (v : V) (vs : List V) → Contains (v ∷ vs) (lowest m v vs)
   lowest_in v [] = first_in v []
-  lowest_in v (w ∷ ws) = cond_both (at_most m v (lowest m w ws)) v (lowest m w ws) (Contains (v ∷ (w ∷ ws))) (λ e. first_in v (w ∷ ws)) (λ e. Contains-append_right (v ∷ []) (w ∷ ws) (lowest m w ws) (lowest_in w ws))
+  lowest_in v (w ∷ ws) = cond_both (at_most m v (lowest m w ws)) v (lowest m w ws) (Contains (v ∷ (w ∷ ws)))
+      (λ e. first_in v (w ∷ ws)) (λ e. Contains-append_right (v ∷ []) (w ∷ ws) (lowest m w ws) (lowest_in w ws))
 
   highest_in : (v : V) (vs : List V) → Contains (v ∷ vs) (highest m v vs)
   highest_in v [] = first_in v []
-  highest_in v (w ∷ ws) = cond_both (at_most m v (highest m w ws)) (highest m w ws) v (Contains (v ∷ (w ∷ ws))) (λ e. Contains-append_right (v ∷ []) (w ∷ ws) (highest m w ws) (highest_in w ws)) (λ e. first_in v (w ∷ ws))
+  highest_in v (w ∷ ws) = cond_both (at_most m v (highest m w ws)) (highest m w ws) v (Contains (v ∷ (w ∷ ws)))
+      (λ e. Contains-append_right (v ∷ []) (w ∷ ws) (highest m w ws) (highest_in w ws)) (λ e. first_in v (w ∷ ws))
 
-  on_extremes : (vs : List V) (P : V → V → Type 0) (R : Type 0) → OfExtremes m vs P → ((a b : V) → Contains vs a → Contains vs b → P a b → R) → R
+  on_extremes : (vs : List V) (P : V → V → Type 0) (R : Type 0) → OfExtremes m vs P
+      → ((a b : V) → Contains vs a → Contains vs b → P a b → R) → R
   on_extremes [] P R h f = absurd h
   on_extremes (v ∷ vs) P R h f = f (lowest m v vs) (highest m v vs) (lowest_in v vs) (highest_in v vs) h
 
@@ -66,12 +71,15 @@ module _ {V : Type 0} (m : Meaning V) (l : Lawful V m) (before : List Call) (c :
 
   middle_within : (a b : V) → Within a → Within b → Within (m.middle a b)
   middle_within a b p q = (
-    cond_both (at_most m a b) a b (λ z. m.rank z ≤ℤ m.rank (m.middle a b) → Low (m.middle a b)) (λ e. low_of a _ p.0) (λ e. low_of b _ q.0) (l.middle_low a b),
-    cond_both (at_most m a b) b a (λ z. m.rank (m.middle a b) ≤ℤ m.rank z → High (m.middle a b)) (λ e. high_of b _ q.1) (λ e. high_of a _ p.1) (l.middle_high a b),
+    cond_both (at_most m a b) a b (λ z. m.rank z ≤ℤ m.rank (m.middle a b) → Low (m.middle a b)) (λ e. low_of a _ p.0)
+        (λ e. low_of b _ q.0) (l.middle_low a b),
+    cond_both (at_most m a b) b a (λ z. m.rank (m.middle a b) ≤ℤ m.rank z → High (m.middle a b)) (λ e. high_of b _ q.1)
+        (λ e. high_of a _ p.1) (l.middle_high a b),
   )
 
   module _ (sp : Setpoint) (v : V) (stores : verdict_of (checked m (after m blank before) c) ≡ Stores sp v) where
-    unless_within : (F : Type 0) (y : Setpoint) (w : V) → StoresUnless m F (after m blank before) c y w → Within w → StoredWithin m before c sp v
+    unless_within : (F : Type 0) (y : Setpoint) (w : V) → StoresUnless m F (after m blank before) c y w → Within w
+        → StoredWithin m before c sp v
     unless_within F y w u p =
         let k = u.stores (λ f. cc ((u.fails f).0)) in
         let i : y ≡ sp = cc in
@@ -89,15 +97,26 @@ module _ {V : Type 0} (m : Meaning V) (l : Lawful V m) (before : List Call) (c :
     says_within : (t : Terms) (e : Evaluation) → Says m t e before c → StoredWithin m before c sp v
     says_within t none h = cc
     says_within t single h =
-        on_taught (taught m before) _ _ h (λ y h. on_extremes m (captured_with m whole before c) _ _ h (λ a b i j u. unless_within _ y _ u (middle_within a b (itself whole a i) (itself whole b j))))
+        on_taught (taught m before) _ _ h
+        (λ y h. on_extremes m (captured_with m whole before c) _ _ h
+        (λ a b i j u. unless_within _ y _ u (middle_within a b (itself whole a i) (itself whole b j))))
     says_within t two_value h =
-        on_taught (taught m before) _ _ h (λ y h. on_extremes m (captured m (point Tp1) before) _ _ h.2 (λ a b i j k. on_extremes m (captured m (point Tp2) before) _ _ k (λ a' b' i' j' u. unless_within _ y _ u (middle_within (m.middle a b) (m.middle a' b') (middle_within a b (earlier (point Tp1) a i) (earlier (point Tp1) b j)) (middle_within a' b' (earlier (point Tp2) a' i') (earlier (point Tp2) b' j'))))))
+        on_taught (taught m before) _ _ h
+        (λ y h. on_extremes m (captured m (point Tp1) before) _ _ h.2
+        (λ a b i j k. on_extremes m (captured m (point Tp2) before) _ _ k
+        (λ a' b' i' j' u. unless_within _ y _ u
+        (middle_within (m.middle a b) (m.middle a' b')
+        (middle_within a b (earlier (point Tp1) a i) (earlier (point Tp1) b j))
+        (middle_within a' b' (earlier (point Tp2) a' i') (earlier (point Tp2) b' j'))))))
     says_within t dynamic h =
-        on_taught (taught m before) _ _ h (λ y h. on_extremes m (captured m whole before) _ _ h (λ a b i j u. unless_within _ y _ u (middle_within a b (earlier whole a i) (earlier whole b j))))
+        on_taught (taught m before) _ _ h
+        (λ y h. on_extremes m (captured m whole before) _ _ h
+        (λ a b i j u. unless_within _ y _ u (middle_within a b (earlier whole a i) (earlier whole b j))))
 
     stored_within : (o : Option (Device V)) → TaughtBy m o before c → StoredWithin m before c sp v
     stored_within None h = cc
     stored_within (Some d) h = says_within d.terms (evaluation_of m d.terms before c) h
 
 pub stores_within_captured : {V : Type 0} (m : Meaning V) → Lawful V m → (cs : List Call) → StoresWithinCaptured m cs
-stores_within_captured m l cs before c rest sp v e stores = stored_within m l before c sp v stores (after m blank before).device (taught_from_captured m cs before c rest e)
+stores_within_captured m l cs before c rest sp v e stores =
+    stored_within m l before c sp v stores (after m blank before).device (taught_from_captured m cs before c rest e)

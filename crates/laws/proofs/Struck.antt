@@ -1,5 +1,6 @@
 -- The full run and the run with foreign calls struck out, side by side.
-use Rattle.std.proofs.Common.{◌≡◌, ℕ, Bool, true, false, cond, ◌&&◌, eqb, List, [], ◌∷◌, Some, None, Option, sym, refl, ap, ◌∙◌, arith}
+use Rattle.std.proofs.Common.{◌≡◌, ℕ, Bool, true, false, cond, ◌&&◌, eqb, List, [], ◌∷◌, Some, None, Option, sym, refl}
+use Rattle.std.proofs.Common.{ap, ◌∙◌, arith}
 use Rattle.std.specs.Option.{option_map}
 use Rattle.std.proofs.lemmas.Bool.{and_right, false≢true, true≢false}
 use Rattle.keypad.specs.declared.Keypad.{Keypad}
@@ -32,7 +33,8 @@ use Rattle.teach.specs.Teachpoints.{with_teachpoint}
 use Rattle.teach.specs.Teaching.{is_idle, store_of}
 use Rattle.objects.specs.Writes.{Setting, with_settings}
 use Rattle.sensor.specs.declared.device.Device.{Device}
-use Rattle.sensor.specs.Devices.{with_settings_at, on_row, selecting, setpoint_setting, stored, stored_settings, after_step, with_channels, with_keypad}
+use Rattle.sensor.specs.Devices.{with_settings_at, on_row, selecting, setpoint_setting, stored, stored_settings}
+use Rattle.sensor.specs.Devices.{after_step, with_channels, with_keypad}
 use Rattle.sensor.specs.Samples.{heard}
 use Rattle.laws.specs.Events.{is_stored}
 use Rattle.laws.proofs.Again.{bare}
@@ -60,7 +62,8 @@ abbrev flags_for : {V : Type 0} → State V → Flags → Teachpoints Bool
 flags_for s f = flags_of (setpoint_at s) f
 
 -- a change of flags reads only the flags that it changes
-changed_same : (s : Option Setpoint) (c : Change) (f f' : Flags) → flags_of s f' ≡ flags_of s f → flags_of s (changed c f') ≡ flags_of s (changed c f)
+changed_same : (s : Option Setpoint) (c : Change) (f f' : Flags) → flags_of s f' ≡ flags_of s f
+    → flags_of s (changed c f') ≡ flags_of s (changed c f)
 changed_same None c f f' e = refl
 changed_same (Some Sp1) (Clear Sp1) f f' e = refl
 changed_same (Some Sp2) (Clear Sp2) f f' e = refl
@@ -69,7 +72,8 @@ changed_same (Some Sp2) (Set Sp2 tp) f f' e = ap (λ x. with_teachpoint x tp tru
 changed_same s c f f' e = e
 
 -- those of a teach that begins are cleared
-cleared : (sp : Setpoint) (f f' : Flags) → of_setpoint (changed (Clear sp) f') sp ≡ of_setpoint (changed (Clear sp) f) sp
+cleared : (sp : Setpoint) (f f' : Flags) → of_setpoint (changed (Clear sp) f') sp
+    ≡ of_setpoint (changed (Clear sp) f) sp
 cleared Sp1 f f' = refl
 cleared Sp2 f f' = refl
 
@@ -78,7 +82,8 @@ cleared Sp2 f f' = refl
 -- from the state s: what stores, ends the teach, and where the flags of its setpoint are the same, they still are
 pub record Leads {V : Type 0} (s : State V) (x : Moved V) : Type 0 where
   pub ends : is_stored x.effect.verdict ≡ true → x.state ≡ Idle
-  pub flags : (f f' : Flags) → flags_for s f' ≡ flags_for s f → flags_for x.state (changed x.effect.change f') ≡ flags_for x.state (changed x.effect.change f)
+  pub flags : (f f' : Flags) → flags_for s f' ≡ flags_for s f
+      → flags_for x.state (changed x.effect.change f') ≡ flags_for x.state (changed x.effect.change f)
 
 module _ {V : Type 0} where
   ended : {s : State V} {c : Change} {v : Verdict V} → Leads s (moved Idle c v)
@@ -117,7 +122,8 @@ module _ {V : Type 0} (m : Meaning V) (t : Terms) where
   row_leads f Idle Point c = began c.setpoint refl
   row_leads f Idle Start c = began c.setpoint refl
   row_leads f (WaitTwo sp p) Point c = each_test (Leads (WaitTwo sp p)) (same_setpoint sp c.setpoint) _ (goes refl)
-  row_leads f (WaitTwo sp p) Apply c = each_test (Leads (WaitTwo sp p)) (both_set f sp) _ (applied_leads f (WaitTwo sp p) sp p.tp1 p.tp2)
+  row_leads f (WaitTwo sp p) Apply c = each_test (Leads (WaitTwo sp p)) (both_set f sp) _
+      (applied_leads f (WaitTwo sp p) sp p.tp1 p.tp2)
   row_leads f (WaitTwo sp p) Cancel c = ended
   row_leads f (WaitDyn sp k) Start c = each_test (Leads (WaitDyn sp k)) (same_setpoint sp c.setpoint) _ (goes refl)
   row_leads f (WaitDyn sp k) Stop c = each_test (Leads (WaitDyn sp k)) (same_setpoint sp c.setpoint) _ ended
@@ -125,8 +131,10 @@ module _ {V : Type 0} (m : Meaning V) (t : Terms) where
   row_leads f s z c = tt
 
   -- a row looks at no flags but those of the setpoint that is taught
-  pub row_same : (f f' : Flags) (s : State V) (z : Step) (c : Command) → flags_for s f' ≡ flags_for s f → row m f' t s z c ≡ row m f t s z c
-  row_same f f' (WaitTwo sp p) Apply c e = ap (λ (x : Teachpoints Bool). cond (x.tp1 && x.tp2) (applied m f t sp p.tp1 p.tp2) None) e
+  pub row_same : (f f' : Flags) (s : State V) (z : Step) (c : Command) → flags_for s f' ≡ flags_for s f
+      → row m f' t s z c ≡ row m f t s z c
+  row_same f f' (WaitTwo sp p) Apply c e =
+      ap (λ (x : Teachpoints Bool). cond (x.tp1 && x.tp2) (applied m f t sp p.tp1 p.tp2) None) e
   row_same f f' s z c e = refl
 
 module _ {V : Type 0} (m : Meaning V) (d : Device V) where
@@ -134,7 +142,8 @@ module _ {V : Type 0} (m : Meaning V) (d : Device V) where
   heard_leads (Value v) = fed_leads m d.terms d.teach.state v
   heard_leads r = goes refl
 
-  pub heard_same : (e : Device V) (r : Reading V) → e.terms ≡ d.terms → e.teach.state ≡ d.teach.state → heard m e r ≡ heard m d r
+  pub heard_same : (e : Device V) (r : Reading V) → e.terms ≡ d.terms → e.teach.state ≡ d.teach.state
+      → heard m e r ≡ heard m d r
   heard_same e (Value v) t i = rw (t, i)
   heard_same e r t i = rw i
 
@@ -150,8 +159,8 @@ pub record Same {V : Type 0} (t u : Teach V) : Type 0 where
   pub state : u.state ≡ t.state
   pub flags : flags_for t.state u.flags ≡ flags_for t.state t.flags
 
--- d in the full run, e in the struck one: all is the same but the teach and the rows of other channels. b: channel k is selected,
--- and a teach that runs, or begins next, is finished
+-- d in the full run, e in the struck one: all is the same but the teach and the rows of other channels. b: channel k is
+-- selected, and a teach that runs, or begins next, is finished
 pub record Beside {V : Type 0} (k : ℕ) (b : Bool) (d e : Device V) : Type 0 where
   pub fixed : bare e ≡ bare d
   pub row : row_at e.channels k ≡ row_at d.channels k
@@ -192,23 +201,42 @@ module _ {V : Type 0} where
   itself i = record { fixed = refl; row = refl; on = λ y. record { state = refl; flags = refl }; off = λ y. i }
 
   module _ {k : ℕ} {b : Bool} {d e : Device V} (w : Beside k b d e) where
-    with_tables : (t u : Table V) → t.count ≡ d.channels.count → u.count ≡ e.channels.count → row_at u k ≡ row_at t k → Beside k b (with_channels d t) (with_channels e u)
-    with_tables t u c c' r = record { fixed = with_table e u c' ∙ w.fixed ∙ sym (with_table d t c); row = r; on = w.on; off = w.off }
+    with_tables : (t u : Table V) → t.count ≡ d.channels.count → u.count ≡ e.channels.count → row_at u k ≡ row_at t k
+        → Beside k b (with_channels d t) (with_channels e u)
+    with_tables t u c c' r = record {
+      fixed = with_table e u c' ∙ w.fixed ∙ sym (with_table d t c);
+      row = r;
+      on = w.on;
+      off = w.off;
+    }
 
     -- the row of channel k is changed by f in both
-    pub both_changed : (f : Row V → Row V) (t u : Table V) → t.count ≡ d.channels.count → u.count ≡ e.channels.count → row_at t k ≡ option_map f (row_at d.channels k) → row_at u k ≡ option_map f (row_at e.channels k) → Beside k b (with_channels d t) (with_channels e u)
+    pub both_changed : (f : Row V → Row V) (t u : Table V) → t.count ≡ d.channels.count → u.count ≡ e.channels.count
+        → row_at t k ≡ option_map f (row_at d.channels k) → row_at u k ≡ option_map f (row_at e.channels k)
+        → Beside k b (with_channels d t) (with_channels e u)
     both_changed f t u c c' i j = with_tables t u c c' (j ∙ ap (option_map f) w.row ∙ sym i)
 
-    pub both_given : (j : ℕ) (ss : List (Setting V)) → Beside k b (with_channels d (with_settings_at d.channels j ss)) (with_channels e (with_settings_at e.channels j ss))
+    pub both_given : (j : ℕ) (ss : List (Setting V))
+        → Beside k b (with_channels d (with_settings_at d.channels j ss))
+        (with_channels e (with_settings_at e.channels j ss))
     both_given j ss =
-        both_changed (λ r. with_settings r (cond (eqb j k) ss [])) (with_settings_at d.channels j ss) (with_settings_at e.channels j ss)
-        (given_count d.channels j ss) (given_count e.channels j ss) (given_to d.channels j k ss) (given_to e.channels j k ss)
+        both_changed (λ r. with_settings r (cond (eqb j k) ss [])) (with_settings_at d.channels j ss)
+        (with_settings_at e.channels j ss)
+        (given_count d.channels j ss) (given_count e.channels j ss) (given_to d.channels j k ss)
+        (given_to e.channels j k ss)
 
-    pub other_given : (j : ℕ) (ss : List (Setting V)) → eqb j k ≡ false → Beside k b (with_channels d (with_settings_at d.channels j ss)) e
-    other_given j ss i = with_tables (with_settings_at d.channels j ss) e.channels (given_count d.channels j ss) refl (w.row ∙ sym (given_other d.channels j k ss i))
+    pub other_given : (j : ℕ) (ss : List (Setting V)) → eqb j k ≡ false
+        → Beside k b (with_channels d (with_settings_at d.channels j ss)) e
+    other_given j ss i = with_tables (with_settings_at d.channels j ss) e.channels (given_count d.channels j ss) refl
+        (w.row ∙ sym (given_other d.channels j k ss i))
 
     pub both_keypads : (f : Keypad → Keypad) → Beside k b (with_keypad d (f d.keypad)) (with_keypad e (f e.keypad))
-    both_keypads f = record { fixed = ap (λ (x : Device V). with_keypad x (f x.keypad)) w.fixed; row = w.row; on = w.on; off = w.off }
+    both_keypads f = record {
+      fixed = ap (λ (x : Device V). with_keypad x (f x.keypad)) w.fixed;
+      row = w.row;
+      on = w.on;
+      off = w.off;
+    }
 
     pub both_select : {b' : Bool} (j : ℕ) → Beside k b' (selecting d j) (selecting e j)
     both_select j = record {
@@ -231,18 +259,27 @@ module _ {V : Type 0} where
         go false i v = v
         go true i v =
             let p = idle_is d.teach.state i in
-            record { fixed = w.fixed; row = w.row; on = λ y. record { state = rests i ∙ sym p; flags = rw p }; off = λ y. rests i }
+            record {
+              fixed = w.fixed;
+              row = w.row;
+              on = λ y. record { state = rests i ∙ sym p; flags = rw p };
+              off = λ y. rests i;
+            }
 
-  module _ {k : ℕ} (l : Bool) {d e : Device V} (x : Moved V) (w : Beside k (eqb d.selected k && cond (is_stored x.effect.verdict) true l) d e) where
+  module _ {k : ℕ} (l : Bool) {d e : Device V} (x : Moved V)
+      (w : Beside k (eqb d.selected k && cond (is_stored x.effect.verdict) true l) d e) where
     abbrev store : Option (Store V)
     store = store_of x.effect.verdict
 
     -- both runs take the teach on
-    pub both_taken : (eqb d.selected k && cond (is_stored x.effect.verdict) true l) ≡ true → Leads d.teach.state x → Beside k (eqb d.selected k && l) (after_step d x) (after_step e x)
+    pub both_taken : (eqb d.selected k && cond (is_stored x.effect.verdict) true l) ≡ true → Leads d.teach.state x
+        → Beside k (eqb d.selected k && l) (after_step d x) (after_step e x)
     both_taken y f =
         let i : e.selected ≡ d.selected = ap (λ (z : Device V). z.selected) w.fixed in
-        let v = both_changed w (λ r. with_settings r (cond (eqb d.selected k) (stored_settings store) [])) (stored d.channels d.selected store) (stored e.channels e.selected store)
-        (stored_count d.channels d.selected store) (stored_count e.channels e.selected store) (stored_to d.channels d.selected k store) (rw i (stored_to e.channels d.selected k store)) in
+        let v = both_changed w (λ r. with_settings r (cond (eqb d.selected k) (stored_settings store) []))
+        (stored d.channels d.selected store) (stored e.channels e.selected store)
+        (stored_count d.channels d.selected store) (stored_count e.channels e.selected store)
+        (stored_to d.channels d.selected k store) (rw i (stored_to e.channels d.selected k store)) in
         record {
           fixed = v.fixed;
           row = v.row;
@@ -251,11 +288,13 @@ module _ {V : Type 0} where
         }
 
     -- the full run alone does
-    pub one_taken : (eqb d.selected k && cond (is_stored x.effect.verdict) true l) ≡ false → Beside k (eqb d.selected k && l) (after_step d x) e
+    pub one_taken : (eqb d.selected k && cond (is_stored x.effect.verdict) true l) ≡ false
+        → Beside k (eqb d.selected k && l) (after_step d x) e
     one_taken y =
         let n = neither (eqb d.selected k) (is_stored x.effect.verdict) l y in
         record {
-          fixed = w.fixed ∙ sym (with_table d (stored d.channels d.selected store) (stored_count d.channels d.selected store));
+          fixed = w.fixed ∙ sym (with_table d (stored d.channels d.selected store)
+              (stored_count d.channels d.selected store));
           row = w.row ∙ sym (stored_other d.channels d.selected k x.effect.verdict n.0);
           on = λ z. absurd (true≢false (sym z ∙ n.1));
           off = λ z. w.off y;

@@ -73,7 +73,8 @@ module _ {V : Type 0} (m : Meaning V) where
   -- what counts for x after the call, of vs that counted before it: nothing at rest, and of vs nothing that is
   -- discarded
   abbrev pub counting : Purpose → Sensor V → Call → List V → List V
-  counting x s c vs = cond (resting (next m s c)) [] (captures x s c ++ cond (discards x (accepted_command m s c)) [] vs)
+  counting x s c vs = cond (resting (next m s c)) [] (captures x s c
+      ++ cond (discards x (accepted_command m s c)) [] vs)
 
   -- the values captured for x in the teach that runs after the calls, where vs counted before them; the latest first
   abbrev pub captured_since : Purpose → Sensor V → List Call → List V → List V

@@ -35,7 +35,10 @@ plain_proper x f = either (eq x zero_float) refl
     either : (t : Bool) → eq x zero_float ≡ t → proper (cond t zero_float x) ≡ true
     either true e = zero_proper
     either false e =
-        proper_from x f.held f.finite_too (λ z. true≢false (sym minus_zero ∙ ap (λ (y : Float). eq y zero_float) (ap (of_bits binary32) (sym z) ∙ of_bits-to_bits binary32 x f.held) ∙ e))
+        proper_from x f.held f.finite_too
+        (λ z. true≢false (sym minus_zero
+        ∙ ap (λ (y : Float). eq y zero_float) (ap (of_bits binary32) (sym z) ∙ of_bits-to_bits binary32 x f.held)
+        ∙ e))
 
 nothing : worth zero_float ≡ pos 0
 unfolding to_bits of_bits units_in
@@ -53,7 +56,8 @@ pub plain_same : (x : Float) → proper x ≡ true → plain x ≡ x
 plain_same x h = worth_fixes (plain x) x (plain_proper x (of_proper x h)) h (plain_worth x (of_proper x h))
 
 -- ---- what is brought between two finite floats is one of them, or lies between them
-squeezed : (low x high : Float) → finite low ≡ true → finite high ≡ true → T (le low x) → T (le x high) → finite x ≡ true
+squeezed : (low x high : Float) → finite low ≡ true → finite high ≡ true → T (le low x) → T (le x high)
+    → finite x ≡ true
 unfolding le
 squeezed nan x high a b h k = absurd (true≢false (sym a))
 squeezed (inf s) x high a b h k = absurd (true≢false (sym a))
@@ -72,23 +76,34 @@ module _ (x low high : Float) (f : T (fits binary32 x)) (a : Finite low) (b : Fi
       either : (p q : Bool) → (T p → T (le low x)) → (T q → T (le x high)) → Finite (cond p (cond q x high) low)
       either false q u v = a
       either true false u v = b
-      either true true u v = record { held = f; finite_too = squeezed low x high a.finite_too b.finite_too (u tt) (v tt) }
+      either true true u v = record {
+        held = f;
+        finite_too = squeezed low x high a.finite_too b.finite_too (u tt) (v tt);
+      }
 
-  between_worth : worth low ≤ℤ worth high → (worth low ≤ℤ worth (between x low high)) × (worth (between x low high) ≤ℤ worth high)
+  between_worth : worth low ≤ℤ worth high → (worth low ≤ℤ worth (between x low high))
+      × (worth (between x low high) ≤ℤ worth high)
   between_worth o = either (le low x) (le x high) refl refl between_finite
     where
-      either : (p q : Bool) → le low x ≡ p → le x high ≡ q → Finite (cond p (cond q x high) low) → (worth low ≤ℤ worth (cond p (cond q x high) low)) × (worth (cond p (cond q x high) low) ≤ℤ worth high)
+      either : (p q : Bool) → le low x ≡ p → le x high ≡ q → Finite (cond p (cond q x high) low)
+          → (worth low ≤ℤ worth (cond p (cond q x high) low)) × (worth (cond p (cond q x high) low) ≤ℤ worth high)
       either false q u v z = (≤ℤ_refl (worth low), o)
       either true false u v z = (o, ≤ℤ_refl (worth high))
-      either true true u v z = (at_most (worth low) (worth x) (sym (le_worth low x a.held a.finite_too f z.finite_too) ∙ u), at_most (worth x) (worth high) (sym (le_worth x high f z.finite_too b.held b.finite_too) ∙ v))
+      either true true u v z = (
+        at_most (worth low) (worth x) (sym (le_worth low x a.held a.finite_too f z.finite_too)
+            ∙ u),
+        at_most (worth x) (worth high) (sym (le_worth x high f z.finite_too b.held b.finite_too) ∙ v),
+      )
 
 -- ---- the middle
 module _ (x y : Float) (h : proper x ≡ true) (k : proper y ≡ true) where
   by_worth : le x y ≡ le_z (worth x) (worth y)
-  by_worth = le_worth x y (proper_parts x h).held (proper_parts x h).finite_too (proper_parts y k).held (proper_parts y k).finite_too
+  by_worth = le_worth x y (proper_parts x h).held (proper_parts x h).finite_too (proper_parts y k).held
+      (proper_parts y k).finite_too
 
   -- the lower of the two and the higher, in order
-  ends : (t : Bool) → le x y ≡ t → Finite (cond t x y) × Finite (cond t y x) × (worth (cond t x y) ≤ℤ worth (cond t y x))
+  ends : (t : Bool) → le x y ≡ t → Finite (cond t x y) × Finite (cond t y x)
+      × (worth (cond t x y) ≤ℤ worth (cond t y x))
   ends true e = (of_proper x h, of_proper y k, at_most (worth x) (worth y) (sym by_worth ∙ e))
   ends false e = (of_proper y k, of_proper x h, at_least (worth x) (worth y) (sym by_worth ∙ e))
 
@@ -107,12 +122,16 @@ module _ (x y : Float) (h : proper x ≡ true) (k : proper y ≡ true) where
   pub middle_above : rank (lesser x y) ≤ℤ rank (middle x y)
   middle_above =
       let e = ends (le x y) refl in
-      rank_from_worth (lesser x y) (middle x y) (subst (λ (z : ℤ). worth (lesser x y) ≤ℤ z) (sym middle_worth) (between_worth (halves x y) (lesser x y) (greater x y) sum_fits e.0 e.1 e.2).0)
+      rank_from_worth (lesser x y) (middle x y)
+      (subst (λ (z : ℤ). worth (lesser x y) ≤ℤ z) (sym middle_worth)
+      (between_worth (halves x y) (lesser x y) (greater x y) sum_fits e.0 e.1 e.2).0)
 
   pub middle_under : rank (middle x y) ≤ℤ rank (greater x y)
   middle_under =
       let e = ends (le x y) refl in
-      rank_from_worth (middle x y) (greater x y) (subst (λ (z : ℤ). z ≤ℤ worth (greater x y)) (sym middle_worth) (between_worth (halves x y) (lesser x y) (greater x y) sum_fits e.0 e.1 e.2).1)
+      rank_from_worth (middle x y) (greater x y)
+      (subst (λ (z : ℤ). z ≤ℤ worth (greater x y)) (sym middle_worth)
+      (between_worth (halves x y) (lesser x y) (greater x y) sum_fits e.0 e.1 e.2).1)
 
   -- the same ends, by ranks
   pub lower_is : (t : Bool) → le_z (rank x) (rank y) ≡ t → lesser x y ≡ cond t x y

@@ -1,6 +1,8 @@
 -- The values of patterns: every pattern below infinity's has one, and no other has.
-use Rattle.std.proofs.Common.{◌≡◌, ℕ, ◌*◌, ◌%◌, ◌^◌, ◌<◌, ◌≤◌, Bool, true, false, not, ◌&&◌, T, eqb, pos, negsuc, sym, refl, ap, ◌∙◌, subst, true≢false, arith, le-ltb}
-use Rattle.std.specs.Float.Ieee.{Float, nan, inf, fin, binary32, eq, neg, is_nan, of_int, to_bits, of_bits, fits, nan_bits}
+use Rattle.std.proofs.Common.{◌≡◌, ℕ, ◌*◌, ◌%◌, ◌^◌, ◌<◌, ◌≤◌, Bool, true, false, not, ◌&&◌, T, eqb, pos, negsuc, sym}
+use Rattle.std.proofs.Common.{refl, ap, ◌∙◌, subst, true≢false, arith, le-ltb}
+use Rattle.std.specs.Float.Ieee.{Float, nan, inf, fin, binary32, eq, neg, is_nan, of_int, to_bits, of_bits, fits}
+use Rattle.std.specs.Float.Ieee.{nan_bits}
 use Rattle.std.specs.Float.Ieee.Bits.{of_bits-to_bits, of_bits-fits, nan_bits_above}
 use Rattle.std.specs.Float.Ieee.Scale.{finite}
 use Rattle.numbers.specs.Floats.{proper, plain}
@@ -9,7 +11,8 @@ use Rattle.numbers.proofs.Units.{pattern_finite, pattern_not_finite}
 use Rattle.numbers.proofs.Worth.{proper_parts}
 
 pub below_infinity : (b : ℕ) → b % 2 ^ 31 < 255 * 2 ^ 23 → proper (plain (of_bits binary32 b)) ≡ true
-below_infinity b h = plain_proper (of_bits binary32 b) (record { held = of_bits-fits binary32 b; finite_too = pattern_finite b h })
+below_infinity b h = plain_proper (of_bits binary32 b)
+    (record { held = of_bits-fits binary32 b; finite_too = pattern_finite b h })
 
 -- an infinity, or no number
 no_value : (x : Float) → finite x ≡ false → proper x ≡ false
@@ -29,7 +32,8 @@ pub from_infinity : (b : ℕ) → 255 * 2 ^ 23 ≤ b % 2 ^ 31 → proper (plain 
 from_infinity b h = no_value_plain (of_bits binary32 b) (pattern_not_finite b h)
 
 pub pattern_of_number : (b : ℕ) → b % 2 ^ 31 < 255 * 2 ^ 23 → T (not (nan_bits binary32 b))
-pattern_of_number b h = let l : b % 2 ^ 31 ≤ 255 * 2 ^ 23 = omega arith in subst (λ (t : Bool). T (not t)) (sym (le-ltb (255 * 2 ^ 23) (b % 2 ^ 31) l) ∙ sym (nan_bits_above binary32 b)) tt
+pattern_of_number b h = let l : b % 2 ^ 31 ≤ 255 * 2 ^ 23 = omega arith in
+    subst (λ (t : Bool). T (not t)) (sym (le-ltb (255 * 2 ^ 23) (b % 2 ^ 31) l) ∙ sym (nan_bits_above binary32 b)) tt
 
 finite_number : (x : Float) → finite x ≡ true → T (not (is_nan x))
 unfolding is_nan

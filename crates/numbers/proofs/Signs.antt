@@ -1,5 +1,6 @@
 -- Whole numbers by a sign and a size.
-use Rattle.std.proofs.Common.{◌≡◌, ℕ, suc, ◌+◌, ◌≤◌, Bool, true, false, T, ℤ, pos, negsuc, ◌+ℤ◌, neg_ℤ, nat_abs, ◌≤ℤ◌, sym, subst, arith}
+use Rattle.std.proofs.Common.{◌≡◌, ℕ, suc, ◌+◌, ◌≤◌, Bool, true, false, T, ℤ, pos, negsuc, ◌+ℤ◌, neg_ℤ, nat_abs, ◌≤ℤ◌}
+use Rattle.std.proofs.Common.{sym, subst, arith}
 use Rattle.std.specs.Int.Signed.{le_z, le_z_yes}
 use Rattle.std.proofs.lemmas.Int.{ints}
 use Rattle.numbers.specs.Floats.{signed}
@@ -23,9 +24,11 @@ mirrored_order f m y z h = grind (arith, ints, m)
 
 pub mirrored_back : (f : ℕ → ℕ) → ((a b : ℕ) → f a ≤ f b → a ≤ b) → (y z : ℤ) → mirrored f y ≤ℤ mirrored f z → y ≤ℤ z
 mirrored_back f m (pos a) (pos b) h = let k : f a ≤ f b = omega (arith, ints) in omega (arith, ints, m a b k)
-mirrored_back f m (pos a) (negsuc b) h = absurd (let k : f (suc b) ≤ f 0 = omega (arith, ints) in omega (arith, m (suc b) 0 k))
+mirrored_back f m (pos a) (negsuc b) h = absurd (let k : f (suc b) ≤ f 0 = omega (arith, ints) in
+    omega (arith, m (suc b) 0 k))
 mirrored_back f m (negsuc a) (pos b) h = omega (arith, ints)
-mirrored_back f m (negsuc a) (negsuc b) h = let k : f (suc b) ≤ f (suc a) = omega (arith, ints) in omega (arith, ints, m (suc b) (suc a) k)
+mirrored_back f m (negsuc a) (negsuc b) h = let k : f (suc b) ≤ f (suc a) = omega (arith, ints) in
+    omega (arith, ints, m (suc b) (suc a) k)
 
 -- ---- the order of whole numbers, by its test
 pub at_most : (a b : ℤ) → le_z a b ≡ true → a ≤ℤ b

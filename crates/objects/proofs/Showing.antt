@@ -15,8 +15,10 @@ module _ {V : Type 0} (m : Meaning V) (l : Lawful V m) where
 
   both : (v w : V) → OneToEight (m.octets v ++ m.octets w)
   both v w =
-      let all = length-append (m.octets v) (m.octets w) in
-      (omega (arith, all, l.octets_wide v, l.octets_wide w, narrow), omega (arith, all, l.octets_wide v, l.octets_wide w, narrow))
+      let all = length-append (m.octets v) (m.octets w) in (
+        omega (arith, all, l.octets_wide v, l.octets_wide w, narrow),
+        omega (arith, all, l.octets_wide v, l.octets_wide w, narrow),
+      )
 
   pub part_shown : (p : Part) (r : Row V) → OneToEight (part_read m p r)
   part_shown Setpoints r = both r.sp1 r.sp2

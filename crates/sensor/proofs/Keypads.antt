@@ -10,10 +10,13 @@ use Rattle.sensor.specs.Calls.{opens, to_close, to_open}
 use Rattle.sensor.specs.Rules.{carried, device_by, performed}
 
 module _ {V : Type 0} (m : Meaning V) where
-  pub opened_device : (d : Device V) → record d { keypad = opened_by d.keypad (opening_checked d.keypad (is_idle d.teach.state)) } ≡ device_by m d (performed m d to_open)
+  pub opened_device : (d : Device V) → record d
+      { keypad = opened_by d.keypad (opening_checked d.keypad (is_idle d.teach.state)) }
+      ≡ device_by m d (performed m d to_open)
   opened_device d = go (opening_checked d.keypad (is_idle d.teach.state))
     where
-      go : (x : Result (Unit {0}) Fault) → record d { keypad = opened_by d.keypad x } ≡ device_by m d (then x (λ _. Ok opens))
+      go : (x : Result (Unit {0}) Fault) → record d { keypad = opened_by d.keypad x }
+          ≡ device_by m d (then x (λ _. Ok opens))
       go (Ok tt) = refl
       go (Err f) = refl
 

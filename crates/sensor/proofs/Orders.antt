@@ -1,5 +1,6 @@
 -- What an order comes to, by what the steps of the code answered.
-use Rattle.std.proofs.Common.{◌≡◌, ℕ, Bool, true, false, cond, List, Some, None, Ok, Err, Option, Result, IfOk, refl, ap, ◌∙◌}
+use Rattle.std.proofs.Common.{◌≡◌, ℕ, Bool, true, false, cond, List, Some, None, Ok, Err, Option, Result, IfOk, refl}
+use Rattle.std.proofs.Common.{ap, ◌∙◌}
 use Rattle.faults.specs.declared.Fault.{Fault}
 use Rattle.faults.specs.declared.Place.{Place}
 use Rattle.faults.specs.declared.Denial.TheVariants.{NoValue}
@@ -49,9 +50,14 @@ module _ {V : Type 0} (m : Meaning V) (d : Device V) where
   command_denied (Ok x) f h = cc
 
   pub command_taken : (x : Result (Moved V) Fault) (s : Option (Store V)) → Ok s ≡ store_by x
-      → (Ok tt ≡ plain (by_command x)) × (with_channels (with_teach d (teach_by d.teach x)) (stored d.channels d.selected s) ≡ device_by m d (by_command x))
+      → (Ok tt ≡ plain (by_command x)) × (with_channels (with_teach d (teach_by d.teach x))
+      (stored d.channels d.selected s) ≡ device_by m d (by_command x))
   command_taken (Err e) s h = cc
-  command_taken (Ok x) s h = (refl, ap (λ y. with_channels (with_teach d (teach_by d.teach (Ok x))) (stored d.channels d.selected y)) cc)
+  command_taken (Ok x) s h = (
+    refl,
+    ap (λ y. with_channels (with_teach d (teach_by d.teach (Ok x)))
+        (stored d.channels d.selected y)) cc,
+  )
 
 module _ {V : Type 0} (m : Meaning V) (d : Device V) (k : ℕ) where
   -- ---- settings
@@ -64,12 +70,16 @@ module _ {V : Type 0} (m : Meaning V) (d : Device V) (k : ℕ) where
   settings_denied (Err e) r f h = (cc, refl)
   settings_denied (Ok s) r f h = cc
 
-  pub settings_written : (ss : Result (List (Setting V)) Fault) (r r' : Row V) → Some r ≡ row_at d.channels k → Ok r' ≡ row_by r ss
+  pub settings_written : (ss : Result (List (Setting V)) Fault) (r r' : Row V) → Some r ≡ row_at d.channels k
+      → Ok r' ≡ row_by r ss
       → (Ok tt ≡ plain (by_settings ss)) × (with_channels d (with_row d.channels k r') ≡ device_by m d (by_settings ss))
   settings_written (Err e) r r' p h = cc
   settings_written (Ok s) r r' p h =
-      let same : r' ≡ with_settings r s = cc in
-      (refl, ap (λ x. with_channels d (with_row d.channels k x)) same ∙ ap (λ o. with_channels d (on_row d.channels k s o)) p)
+      let same : r' ≡ with_settings r s = cc in (
+        refl,
+        ap (λ x. with_channels d (with_row d.channels k x)) same
+            ∙ ap (λ o. with_channels d (on_row d.channels k s o)) p,
+      )
 
 module _ {V : Type 0} (m : Meaning V) (d : Device V) (place : Place) where
   -- ---- what a write comes to
@@ -78,11 +88,13 @@ module _ {V : Type 0} (m : Meaning V) (d : Device V) (place : Place) where
   command_writes (Err e) = tt
   command_writes (Ok x) = tt
 
-  select_writes : (b : Bool) (n : ℕ) → IfOk (carried m d (cond b (Err (fault_at NoValue place)) (Ok (to_select n)))) Writing
+  select_writes : (b : Bool) (n : ℕ) → IfOk (carried m d (cond b (Err (fault_at NoValue place)) (Ok (to_select n))))
+      Writing
   select_writes true n = tt
   select_writes false n = tt
 
-  settings_write : (k : ℕ) (ss : Result (List (Setting V)) Fault) → IfOk (carried m d (then ss (λ s. Ok (to_write k s)))) Writing
+  settings_write : (k : ℕ) (ss : Result (List (Setting V)) Fault)
+      → IfOk (carried m d (then ss (λ s. Ok (to_write k s)))) Writing
   settings_write k (Err e) = tt
   settings_write k (Ok s) = tt
 

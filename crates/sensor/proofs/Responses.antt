@@ -37,7 +37,8 @@ module _ {V : Type 0} where
   write_done (Err f) h w = cc
 
   -- a request that is granted has its whole response
-  pub granted_written : (a : Asked) (x : Result (Act V) Fault) (n : ℕ) → Ok n ≡ counted (granted_by x) x → granted_by x ≡ request_written (Ok a) x
+  pub granted_written : (a : Asked) (x : Result (Act V) Fault) (n : ℕ) → Ok n ≡ counted (granted_by x) x
+      → granted_by x ≡ request_written (Ok a) x
   granted_written a (Ok act) n h = refl
   granted_written a (Err f) n h = cc
 

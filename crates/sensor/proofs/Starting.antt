@@ -11,7 +11,8 @@ use Rattle.sensor.specs.Rules.{carried, checked, checked_by, keypad_open, next_b
 use Rattle.sensor.specs.Setups.{set_up_checked}
 
 module _ {V : Type 0} (m : Meaning V) where
-  carried_start : (d : Device V) (y : Result (Device V) Fault) → carried m d (then y (λ e. Ok (to_start e))) ≡ then y (λ e. Ok (starts e))
+  carried_start : (d : Device V) (y : Result (Device V) Fault)
+      → carried m d (then y (λ e. Ok (to_start e))) ≡ then y (λ e. Ok (starts e))
   carried_start d (Ok e) = refl
   carried_start d (Err f) = refl
 
@@ -21,7 +22,8 @@ module _ {V : Type 0} (m : Meaning V) where
   at_device (Some d) g = carried_start d (set_up_checked m d.keypad.is_open g)
 
   -- its checks, by whether an operation is open
-  pub set_up_is : (s : Sensor V) (g : Setup (List ℕ)) → checked m s (set_up g) ≡ then (set_up_checked m (keypad_open s) g) (λ e. Ok (starts e))
+  pub set_up_is : (s : Sensor V) (g : Setup (List ℕ))
+      → checked m s (set_up g) ≡ then (set_up_checked m (keypad_open s) g) (λ e. Ok (starts e))
   unfolding checked
   set_up_is s g = at_device s.device g
 

@@ -1,6 +1,6 @@
 -- Worked sessions on a sensor with one channel, range -100 to 10,000, scale 0, C 1, S 0, D 10: all of IntegerT16, but
--- for the one that says Float32T. Each is the replies to a list of calls on a blank sensor, a set-up first, but for the one
--- that tells a middle; every buffer has 16 octets.
+-- for the one that says Float32T. Each is the replies to a list of calls on a blank sensor, a set-up first, but for the
+-- one that tells a middle; every buffer has 16 octets.
 use Rattle.std.specs.Prelude.{◌≡◌, ℕ, List, [], ◌∷◌, pos, negsuc, Ok, Err, Result}
 use Rattle.faults.specs.declared.Fault.{Fault}
 use Rattle.faults.specs.declared.Layer.{Layer}

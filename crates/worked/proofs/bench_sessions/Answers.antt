@@ -6,4 +6,17 @@ use Rattle.worked.proofs.bench_sessions.Goals as goal
 
 pub returns : goal.returns
 unfolding checked
-returns c = (refl, refl, refl, refl, refl, refl, refl, refl, refl, refl, λ v w p q. ap₂ (λ a b. shr_z (a +ℤ b) 2) p q, denies_not_a_number)
+returns c = (
+  refl,
+  refl,
+  refl,
+  refl,
+  refl,
+  refl,
+  refl,
+  refl,
+  refl,
+  refl,
+  λ v w p q. ap₂ (λ a b. shr_z (a +ℤ b) 2) p q,
+  denies_not_a_number,
+)

@@ -15,14 +15,17 @@ returns-clause-entry g c =
     let line = c.args.line.now in
     let zeros = c.as_mut_slice.result.now in
     let call : Call = called c.lend.result (length zeros) in
-    let room : length zeros ≡ line.room = ap length (c.as_mut_slice.ensures.value ∙ c.in_ok-out.ensures) ∙ length-replicate line.room 0 in
+    let room : length zeros ≡ line.room = ap length (c.as_mut_slice.ensures.value ∙ c.in_ok-out.ensures)
+    ∙ length-replicate line.room 0 in
     let call-is : call ≡ call_of line = ap (called c.lend.result) room ∙ c.lend.ensures in
     let told =
     c.keep_octets.ensures
-    ∙ ap (λ buffer. read_from buffer made.result) (written_back made.new.out _ c.in_ok-out.out.len (made.auto.out ∙ c.as_mut_slice.ensures.len))
+    ∙ ap (λ buffer. read_from buffer made.result)
+    (written_back made.new.out _ c.in_ok-out.out.len (made.auto.out ∙ c.as_mut_slice.ensures.len))
     ∙ read_back m s call (call_of line) zeros made.new.out made.result made.ensures.reply made.ensures.buffer call-is in
     let shows =
-    channels_shown made.new.self.sensor (next m s (call_of line)) (vec_items c.in_ok-channels.channels) c.in_ok-channels.ensures
+    channels_shown made.new.self.sensor (next m s (call_of line)) (vec_items c.in_ok-channels.channels)
+    c.in_ok-channels.ensures
     (next_by_name m s made.new.self.sensor call (call_of line) made.ensures.sensor call-is) in
     λ i. record { reply = told i; channels = shows i }
 
@@ -32,6 +35,8 @@ returns-clause-sensor g c =
     let line = c.args.line.now in
     let zeros = c.as_mut_slice.result.now in
     let call : Call = called c.lend.result (length zeros) in
-    let room : length zeros ≡ line.room = ap length (c.as_mut_slice.ensures.value ∙ c.in_ok-out.ensures) ∙ length-replicate line.room 0 in
+    let room : length zeros ≡ line.room = ap length (c.as_mut_slice.ensures.value ∙ c.in_ok-out.ensures)
+    ∙ length-replicate line.room 0 in
     let call-is : call ≡ call_of line = ap (called c.lend.result) room ∙ c.lend.ensures in
-    next_by_name g.K.Kind.meaning c.args.bench.now.sensor made.new.self.sensor call (call_of line) made.ensures.sensor call-is
+    next_by_name g.K.Kind.meaning c.args.bench.now.sensor made.new.self.sensor call (call_of line) made.ensures.sensor
+    call-is

@@ -6,7 +6,8 @@ use Rattle.days.proofs.Entering.{entered}
 use Rattle.days.proofs.day.enter_all.Goals as goal
 
 pub loop-line-init : goal.loop-line-init
-loop-line-init g c = ap (λ z. map entry_told z ++ entries g.K.Kind.meaning c.args.bench.now.sensor (map call_of c.args.lines.now)) c.new-log.ensures.items
+loop-line-init g c = ap (λ z. map entry_told z
+    ++ entries g.K.Kind.meaning c.args.bench.now.sensor (map call_of c.args.lines.now)) c.new-log.ensures.items
 
 pub loop-line-preserved : goal.loop-line-preserved
 loop-line-preserved g c =
@@ -17,7 +18,8 @@ loop-line-preserved g c =
     let log = vec_items c.loop-line.log in
     let item = c.line-item.result in
     let left = drop (i + 1) lines in
-    entered m s (sensor_of c.enter.new.bench) log (vec_items c.push.new.self) c.in_ok-entry.entry item left c.in_ok-push.ensures.items c.in_ok-entry.ensures.entry c.in_ok-entry.ensures.sensor
+    entered m s (sensor_of c.enter.new.bench) log (vec_items c.push.new.self) c.in_ok-entry.entry item left
+    c.in_ok-push.ensures.items c.in_ok-entry.ensures.entry c.in_ok-entry.ensures.sensor
     ∙ ap (λ z. map entry_told log ++ entries m s (map call_of (z ∷ left))) c.line-item.is
     ∙ sym (at_drop_more (λ z. map entry_told log ++ entries m s (map call_of z)) lines i item c.loop-line-test.true)
     ∙ c.loop-line.invariant
@@ -27,5 +29,6 @@ returns g c =
     let log = map entry_told (vec_items c.loop-line.log) in
     let done : length c.args.lines.now ≤ c.loop-line.line-index = search rules in
     sym (append-nil log)
-    ∙ sym (at_drop_all (λ z. log ++ entries g.K.Kind.meaning (sensor_of c.loop-line.bench) (map call_of z)) c.args.lines.now c.loop-line.line-index done)
+    ∙ sym (at_drop_all (λ z. log ++ entries g.K.Kind.meaning (sensor_of c.loop-line.bench) (map call_of z))
+    c.args.lines.now c.loop-line.line-index done)
     ∙ c.loop-line.invariant

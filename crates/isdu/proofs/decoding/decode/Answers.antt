@@ -9,6 +9,7 @@ use Rattle.isdu.proofs.decoding.decode.Goals as goal
 pub returns-in-len2-up : goal.returns-in-len2-up
 returns-in-len2-up c =
     let frame = c.args.frame.now in
-    let e : told c.request_in.result ≡ decoded frame = c.request_in.ensures ∙ ap decoded (sym (split_ends frame c.in-len2-up.len_at_least)) in
+    let e : told c.request_in.result ≡ decoded frame =
+    c.request_in.ensures ∙ ap decoded (sym (split_ends frame c.in-len2-up.len_at_least)) in
     let octets = octets_all frame (λ i. omega (arith, c.type_inv.frame i)) in
     record { value = e; judged = judged frame _ octets e; recomposes = recomposes frame _ octets e }

@@ -14,9 +14,16 @@ returns-clause-buffer g c =
     let b = c.args.signals in
     let bs = process_data m c.args.self a b in
     let wide = shown_wide m l c.args.self in
-    let h : length bs ≤ length out = omega (arith, block_long m l c.args.self a b, c.width-width.ensures, c.process_data_length.ensures) in
+    let h : length bs ≤ length out = omega (
+      arith,
+      block_long m l c.args.self a b,
+      c.width-width.ensures,
+      c.process_data_length.ensures,
+    ) in
     let k : length ws ≤ length out = omega (arith, wide, c.process_data_length.ensures) in
-    let n : c.width-width.result + 2 ≤ length out = omega (arith, c.width-width.ensures, c.process_data_length.ensures) in
-    (λ i. set (set ((c.write.ensures.buffer ∙ sym (placed_room ws out k)) i) c.width-width.result a) (c.width-width.result + 1) b)
+    let n : c.width-width.result + 2 ≤ length out =
+    omega (arith, c.width-width.ensures, c.process_data_length.ensures) in
+    (λ i. set (set ((c.write.ensures.buffer ∙ sym (placed_room ws out k)) i) c.width-width.result a)
+    (c.width-width.result + 1) b)
     ∙ two_behind ws out c.width-width.result a b (wide ∙ sym c.width-width.ensures) n
     ∙ placed_room bs out h

@@ -10,5 +10,6 @@ invariant-loop-i g l = record {
   within : l.i ≤ l.n;
   count_kept : l.self.count ≡ l.initial.self.count;
   rows_judged : l.self.rows ≡ changed_from (judged g.K.Kind.meaning l.reading) l.initial.self.rows l.n l.i;
-  signals_packed : l.signals ≡ packed (map signal (map (judged g.K.Kind.meaning l.reading) (drop l.i (take l.n l.initial.self.rows))));
+  signals_packed : l.signals ≡ packed (map signal
+      (map (judged g.K.Kind.meaning l.reading) (drop l.i (take l.n l.initial.self.rows))));
 }

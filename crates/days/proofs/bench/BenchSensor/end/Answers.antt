@@ -6,7 +6,8 @@ use Rattle.days.proofs.bench.BenchSensor.end.Goals as goal
 
 pub unreachable-requires : goal.unreachable-requires
 unreachable-requires g c =
-    closes_with_its_own g.K.Kind.meaning c.args.self.sensor c.in-Some.ticket c.in-Err._unclosed (sym c.in-Some.is ∙ c.args.self.kept) c.in-Err.ensures.reply
+    closes_with_its_own g.K.Kind.meaning c.args.self.sensor c.in-Some.ticket c.in-Err._unclosed (sym c.in-Some.is
+    ∙ c.args.self.kept) c.in-Err.ensures.reply
 
 pub returns-in-Ok : goal.returns-in-Ok
 returns-in-Ok g c =
@@ -16,4 +17,5 @@ returns-in-Ok g c =
     ∙ ap (λ n. next m s (close_keypad n)) (takes_back m s c.in-Some.ticket (sym c.in-Some.is ∙ c.args.self.kept)).1
 
 pub returns-in_default : goal.returns-in_default
-returns-in_default g c = none_closed g.K.Kind.meaning c.args.self.sensor (serial c.args.self.sensor) (sym c.in_default.is ∙ c.args.self.kept)
+returns-in_default g c = none_closed g.K.Kind.meaning c.args.self.sensor (serial c.args.self.sensor)
+    (sym c.in_default.is ∙ c.args.self.kept)

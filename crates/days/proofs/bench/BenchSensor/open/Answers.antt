@@ -13,13 +13,17 @@ keep-requires g c =
 pub invariant_of-self : goal.invariant_of-self
 invariant_of-self g c =
     let s = c.args.self.now.sensor in
-    record { kept = c.keep.ensures ∙ (opening g.K.Kind.meaning s c.in-Ok.ticket c.in-Ok.ensures.reply).1 ∙ ap due (sym c.open_keypad.ensures.sensor) }
+    record {
+      kept = c.keep.ensures ∙ (opening g.K.Kind.meaning s c.in-Ok.ticket c.in-Ok.ensures.reply).1
+          ∙ ap due (sym c.open_keypad.ensures.sensor);
+    }
 
 pub invariant_of-self-in-Err-1 : goal.invariant_of-self-in-Err-1
 invariant_of-self-in-Err-1 g c =
     let s = c.args.self.now.sensor in
     record {
-      kept = not_opened g.K.Kind.meaning s c.open_keypad.new.self c.args.self.now.ticket c.in-Err.fault c.args.self.now.kept c.in-Err.ensures.reply c.open_keypad.ensures.sensor;
+      kept = not_opened g.K.Kind.meaning s c.open_keypad.new.self c.args.self.now.ticket c.in-Err.fault
+          c.args.self.now.kept c.in-Err.ensures.reply c.open_keypad.ensures.sensor;
     }
 
 pub returns-in-Ok-clause-reply : goal.returns-in-Ok-clause-reply
@@ -28,4 +32,5 @@ returns-in-Ok-clause-reply g c =
     ap Ticket c.serial-serial.ensures ∙ opened_told g.K.Kind.meaning s c.in-Ok.ticket c.in-Ok.ensures.reply
 
 pub returns-in-Err-clause-reply : goal.returns-in-Err-clause-reply
-returns-in-Err-clause-reply g c = unopened_told g.K.Kind.meaning c.args.self.now.sensor c.in-Err.fault c.in-Err.ensures.reply
+returns-in-Err-clause-reply g c = unopened_told g.K.Kind.meaning c.args.self.now.sensor c.in-Err.fault
+    c.in-Err.ensures.reply

@@ -6,4 +6,5 @@ use Rattle.sensor.proofs.device.Device.close_keypad.Goals as goal
 pub returns-clause-device : goal.returns-clause-device
 returns-clause-device g c =
     let d = c.args.self.now in
-    ap (λ k. record d { keypad = k }) c.close.ensures.keypad ∙ closed_device g.K.Kind.meaning d (ticket_checked d.keypad (serial_of c.args.ticket))
+    ap (λ k. record d { keypad = k }) c.close.ensures.keypad
+    ∙ closed_device g.K.Kind.meaning d (ticket_checked d.keypad (serial_of c.args.ticket))

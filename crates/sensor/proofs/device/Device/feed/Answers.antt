@@ -8,7 +8,8 @@ use Rattle.sensor.specs.Samples.{heard}
 use Rattle.sensor.proofs.device.Device.feed.Goals as goal
 
 -- a reading that is no value leaves the device
-unfed : {V : Type 0} (m : Meaning V) (d : Device V) (r : Reading V) → ((v : V) → r ≡ Value v → ⊥) → d ≡ after_step d (heard m d r)
+unfed : {V : Type 0} (m : Meaning V) (d : Device V) (r : Reading V) → ((v : V) → r ≡ Value v → ⊥)
+    → d ≡ after_step d (heard m d r)
 unfed m d (Value v) not_value = absurd (not_value v refl)
 unfed m d Below not_value = refl
 unfed m d Above not_value = refl

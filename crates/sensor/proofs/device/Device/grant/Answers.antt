@@ -17,10 +17,12 @@ use Rattle.sensor.proofs.Responses.{write_confirmed, write_done}
 use Rattle.sensor.proofs.device.Device.grant.Goals as goal
 
 pub show-requires : goal.show-requires
-show-requires g c = let row = subst (AccessHasRow c.args.self.now.channels) c.in-Read.is c.in_ok-shown.ensures.row in search rules
+show-requires g c = let row = subst (AccessHasRow c.args.self.now.channels) c.in-Read.is c.in_ok-shown.ensures.row in
+    search rules
 
 pub write-requires : goal.write-requires
-write-requires g c = let row = subst (AccessHasRow c.args.self.now.channels) c.in-Write.is c.in_ok-shown.ensures.row in search rules
+write-requires g c = let row = subst (AccessHasRow c.args.self.now.channels) c.in-Write.is c.in_ok-shown.ensures.row in
+    search rules
 
 pub returns-in-Read-clause-shown : goal.returns-in-Read-clause-shown
 returns-in-Read-clause-shown g c =
@@ -46,8 +48,10 @@ returns-in_err-write-in-Write g c =
     ap (λ p. carried m d (write_asked m d p w)) c.place_of.ensures
     ∙ ap (λ z. comes (Ok (lent_access z))) (sym c.in-Write.is)
     ∙ ap comes c.in_ok-shown.ensures.access in
-    let denied = sym (plain_denied (carried m d (write_asked m d c.place_of.result w)) f c.in_err-write-in-Write.ensures.reply) ∙ to in
-    let p = err_from_is_err_and c.from_residual-in_err-write-in-Write.result c.from_residual-in_err-write-in-Write.ensures.1 in
+    let denied = sym (plain_denied (carried m d (write_asked m d c.place_of.result w)) f
+    c.in_err-write-in-Write.ensures.reply) ∙ to in
+    let p = err_from_is_err_and c.from_residual-in_err-write-in-Write.result
+    c.from_residual-in_err-write-in-Write.ensures.1 in
     record {
       reply = p.1 ∙ ap Err p.2 ∙ ap (λ x. counted (granted_by x) x) denied;
       device = c.write.ensures.device ∙ ap (device_by m d) to;
@@ -68,8 +72,10 @@ returns-in_ok-write-in-Write g c =
     ap (λ p. carried m d (write_asked m d p w)) c.place_of.ensures
     ∙ ap (λ z. comes (Ok (lent_access z))) (sym c.in-Write.is)
     ∙ ap comes c.in_ok-shown.ensures.access in
-    let done = write_done (carried m d (write_asked m d c.place_of.result w)) c.in_ok-write-in-Write.ensures.reply (write_writes m d c.place_of.result w) in
-    let whole : c.confirm_write.result ≡ Ok (length write_reply) = c.confirm_write.ensures.answer ∙ write_confirmed (length out) c.requires in
+    let done = write_done (carried m d (write_asked m d c.place_of.result w)) c.in_ok-write-in-Write.ensures.reply
+    (write_writes m d c.place_of.result w) in
+    let whole : c.confirm_write.result ≡ Ok (length write_reply) =
+    c.confirm_write.ensures.answer ∙ write_confirmed (length out) c.requires in
     record {
       reply = whole ∙ sym done.1 ∙ ap (λ x. counted (granted_by x) x) to;
       device = c.write.ensures.device ∙ ap (device_by m d) to;

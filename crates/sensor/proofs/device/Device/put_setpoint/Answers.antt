@@ -16,4 +16,5 @@ returns g c =
       | in-Sp1 w ↦ w.row-is ∙ ap (λ x. with_setting r (setpoint_setting x v)) (sym w.in-Sp1.is)
       | in-Sp2 w ↦ w.row-is ∙ ap (λ x. with_setting r (setpoint_setting x v)) (sym w.in-Sp2.is)
     ] in
-    ap (with_channels d) (c.replace.ensures ∙ ap (with_row d.channels k) row_is ∙ ap (on_row d.channels k (setpoint_setting sp v ∷ [])) c.in-Some.ensures)
+    ap (with_channels d) (c.replace.ensures ∙ ap (with_row d.channels k) row_is
+    ∙ ap (on_row d.channels k (setpoint_setting sp v ∷ [])) c.in-Some.ensures)

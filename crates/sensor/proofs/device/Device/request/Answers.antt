@@ -19,11 +19,13 @@ returns-then-out-lt-RESPONSE_ROOM g c =
     let out = c.args.out.now in
     let frame = decoded c.args.frame.now in
     let e =
-    ap (λ (b : Bool). carried m d (cond b (Err (fault ResponseBuffer)) (then frame (asked_of m d)))) (sym (lt-ltb (length out) response_room c.if-out-lt-RESPONSE_ROOM.true)) in
+    ap (λ (b : Bool). carried m d (cond b (Err (fault ResponseBuffer)) (then frame (asked_of m d))))
+    (sym (lt-ltb (length out) response_room c.if-out-lt-RESPONSE_ROOM.true)) in
     record {
       reply = ap Err c.of.ensures ∙ ap (λ x. counted (request_written frame x) x) e;
       device = ap (device_by m d) e;
-      buffer = ap (λ octets. over octets out) (sym (short_silent frame)) ∙ ap (λ x. over (request_written frame x) out) e;
+      buffer = ap (λ octets. over octets out) (sym (short_silent frame))
+          ∙ ap (λ x. over (request_written frame x) out) e;
       shown = subst (λ x. IfOk x ShowsOneToEight) e tt;
     }
 
@@ -39,7 +41,8 @@ returns-in_err-request g c =
     let none : Err f ≡ frame = c.in_err-request.ensures.value in
     let e =
     ap (λ r. carried m d (then r (asked_of m d))) none
-    ∙ ap (λ (b : Bool). carried m d (cond b (Err (fault ResponseBuffer)) (then frame (asked_of m d)))) (sym (le-ltb (length out) response_room c.if-out-lt-RESPONSE_ROOM.false)) in
+    ∙ ap (λ (b : Bool). carried m d (cond b (Err (fault ResponseBuffer)) (then frame (asked_of m d))))
+    (sym (le-ltb (length out) response_room c.if-out-lt-RESPONSE_ROOM.false)) in
     record {
       reply = p.1 ∙ ap Err p.2 ∙ ap (λ x. counted (request_written frame x) x) e;
       device = ap (device_by m d) e;
@@ -59,7 +62,8 @@ returns-in-Ok g c =
     let is : Ok a ≡ frame = c.in_ok-request.ensures.value in
     let e =
     ap (λ r. carried m d (then r (asked_of m d))) is
-    ∙ ap (λ (b : Bool). carried m d (cond b (Err (fault ResponseBuffer)) (then frame (asked_of m d)))) (sym (le-ltb (length out) response_room c.if-out-lt-RESPONSE_ROOM.false)) in
+    ∙ ap (λ (b : Bool). carried m d (cond b (Err (fault ResponseBuffer)) (then frame (asked_of m d))))
+    (sym (le-ltb (length out) response_room c.if-out-lt-RESPONSE_ROOM.false)) in
     let whole = granted_written a x₀ c.in-Ok.n c.in-Ok.ensures.reply in
     record {
       reply =
@@ -89,14 +93,16 @@ returns-in-Err g c =
     let is : Ok a ≡ frame = c.in_ok-request.ensures.value in
     let e =
     ap (λ r. carried m d (then r (asked_of m d))) is
-    ∙ ap (λ (b : Bool). carried m d (cond b (Err (fault ResponseBuffer)) (then frame (asked_of m d)))) (sym (le-ltb (length out) response_room c.if-out-lt-RESPONSE_ROOM.false)) in
+    ∙ ap (λ (b : Bool). carried m d (cond b (Err (fault ResponseBuffer)) (then frame (asked_of m d))))
+    (sym (le-ltb (length out) response_room c.if-out-lt-RESPONSE_ROOM.false)) in
     let denied = fault_counted x₀ (granted_by x₀) f c.in-Err.ensures.reply in
     record {
       reply = c.deny.ensures.reply ∙ ap (λ x. counted (request_written frame x) x) (sym denied ∙ e);
       device = c.in-Err.ensures.device ∙ ap (device_by m d) e;
       buffer =
           c.deny.ensures.buffer
-          ∙ ap (over (negative a.direction (entry f.denial).code)) (c.in-Err.ensures.buffer ∙ ap (λ x. over (granted_by x) out) denied)
+          ∙ ap (over (negative a.direction (entry f.denial).code)) (c.in-Err.ensures.buffer
+          ∙ ap (λ x. over (granted_by x) out) denied)
           ∙ ap (λ r. over (refused r f) out) is
           ∙ ap (λ x. over (request_written frame x) out) (sym denied ∙ e);
       shown = subst (λ x. IfOk x ShowsOneToEight) (sym denied ∙ e) tt;

@@ -21,7 +21,8 @@ returns-then-out-process_data_length g c =
     let r = within m d.range.low d.range.high c.args.reading in
     let out = c.args.out.now in
     let h : length out < process_data_length m = omega (arith, c.process_data_length.ensures) in
-    let e = ap (λ (b : Bool). carried m d (cond b (Err (fault BufferTooShort)) (Ok (to_sample r)))) (sym (lt-ltb (length out) (process_data_length m) h)) in
+    let e = ap (λ (b : Bool). carried m d (cond b (Err (fault BufferTooShort)) (Ok (to_sample r))))
+    (sym (lt-ltb (length out) (process_data_length m) h)) in
     record {
       reply = ap Err c.of.ensures ∙ ap (λ x. counted (sample_written m d x) x) e;
       device = ap (device_by m d) e;
@@ -36,21 +37,25 @@ returns g c =
     let r = within m d.range.low d.range.high c.args.reading in
     let out = c.args.out.now in
     let h : process_data_length m ≤ length out = omega (arith, c.process_data_length.ensures) in
-    let e = ap (λ (b : Bool). carried m d (cond b (Err (fault BufferTooShort)) (Ok (to_sample r)))) (sym (le-ltb (length out) (process_data_length m) h)) in
+    let e = ap (λ (b : Bool). carried m d (cond b (Err (fault BufferTooShort)) (Ok (to_sample r))))
+    (sym (le-ltb (length out) (process_data_length m) h)) in
     let block-is = sample_data m d r in
     let reading-is : c.within-reading.result ≡ r = c.within-reading.ensures in
     let signals-is : c.judge_and_feed-signals.result ≡ signals_octet (judged_table m r d.channels) =
     c.judge_and_feed-signals.ensures.signals ∙ ap (λ x. signals_octet (judged_table m x d.channels)) reading-is in
     let block-shown : process_data m c.within-reading.result d.scale c.judge_and_feed-signals.result ≡ block-is =
     λ i. process_data m (reading-is i) d.scale (signals-is i) in
-    let long : length block-is ≡ process_data_length m = block_long m l r d.scale (signals_octet (judged_table m r d.channels)) in
+    let long : length block-is ≡ process_data_length m =
+    block_long m l r d.scale (signals_octet (judged_table m r d.channels)) in
     let room : length block-is ≤ length out = omega (arith, long) in
     record {
       reply =
           c.ok_or.ensures.value
-          ∙ ap (λ o. ok_or o c.of-2.result) (c.write_process_data.ensures.answer ∙ ap (λ bs. fitting bs out) block-shown ∙ sym (fitting_room block-is out room))
+          ∙ ap (λ o. ok_or o c.of-2.result) (c.write_process_data.ensures.answer ∙ ap (λ bs. fitting bs out) block-shown
+          ∙ sym (fitting_room block-is out room))
           ∙ ap (λ x. counted (sample_written m d x) x) e;
-      device = c.judge_and_feed-signals.ensures.device ∙ ap (λ x. done m d (samples x (heard m d x))) reading-is ∙ ap (device_by m d) e;
+      device = c.judge_and_feed-signals.ensures.device ∙ ap (λ x. done m d (samples x (heard m d x))) reading-is
+          ∙ ap (device_by m d) e;
       buffer =
           c.write_process_data.ensures.buffer
           ∙ ap (λ bs. placed bs out) block-shown

@@ -7,7 +7,8 @@ use Rattle.sensor.specs.Rules.{carried, device_by}
 use Rattle.sensor.proofs.device.Device.write.Goals as goal
 
 pub change-requires : goal.change-requires
-change-requires g c = let row = subst (WrittenHasRow c.args.self.now.channels) c.in-Channel.is c.requires in search rules
+change-requires g c = let row = subst (WrittenHasRow c.args.self.now.channels) c.in-Channel.is c.requires in
+    search rules
 
 pub returns-in-Command : goal.returns-in-Command
 returns-in-Command g c =

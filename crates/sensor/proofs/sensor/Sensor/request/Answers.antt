@@ -14,7 +14,8 @@ returns-clause-reply g c =
     let m = g.K.Kind.meaning in
     let call = request c.args.frame.now (length c.args.out.now) in
     let device-is : Some c.in_ok-ok_or.field-0.now ≡ c.args.self.now.device = search rules in
-    c.request.ensures.reply ∙ ap (λ o. counted (written_by m o call (checked_by m o call)) (checked_by m o call)) device-is
+    c.request.ensures.reply ∙ ap (λ o. counted (written_by m o call (checked_by m o call)) (checked_by m o call))
+    device-is
 
 pub returns-clause-shown : goal.returns-clause-shown
 unfolding checked

@@ -19,10 +19,12 @@ returns-in_err-checked g c =
     let setup = lent_setup c.args.setup.now in
     let f = c.in_err-checked.field-0.0 in
     let p = err_from_is_err_and c.from_residual.result c.from_residual.ensures.1 in
-    let e : Err f ≡ checked m s (set_up setup) = ap (λ y. then y (λ d. Ok (starts d))) c.in_err-checked.ensures ∙ sym (set_up_is m s setup) in
+    let e : Err f ≡ checked m s (set_up setup) = ap (λ y. then y (λ d. Ok (starts d))) c.in_err-checked.ensures
+    ∙ sym (set_up_is m s setup) in
     record {
       reply = p.1 ∙ ap Err p.2 ∙ ap plain e;
-      sensor = ap (λ o. record { device = o }) (denied_next m s.device f) ∙ ap (λ x. record { device = next_by m s.device x }) e;
+      sensor = ap (λ o. record { device = o }) (denied_next m s.device f)
+          ∙ ap (λ x. record { device = next_by m s.device x }) e;
     }
 
 pub returns : goal.returns
@@ -31,8 +33,10 @@ returns g c =
     let s = c.args.self.now in
     let setup = lent_setup c.args.setup.now in
     let d = c.in_ok-checked.field-0 in
-    let e : Ok (starts d) ≡ checked m s (set_up setup) = ap (λ y. then y (λ x. Ok (starts x))) c.in_ok-checked.ensures ∙ sym (set_up_is m s setup) in
+    let e : Ok (starts d) ≡ checked m s (set_up setup) = ap (λ y. then y (λ x. Ok (starts x))) c.in_ok-checked.ensures
+    ∙ sym (set_up_is m s setup) in
     record {
       reply = ap plain e;
-      sensor = ap (λ o. record { device = o }) (started_next m s.device d) ∙ ap (λ x. record { device = next_by m s.device x }) e;
+      sensor = ap (λ o. record { device = o }) (started_next m s.device d)
+          ∙ ap (λ x. record { device = next_by m s.device x }) e;
     }

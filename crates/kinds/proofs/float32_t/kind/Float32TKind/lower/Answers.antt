@@ -7,4 +7,7 @@ use Rattle.numbers.proofs.Moves.{lowered_proper}
 use Rattle.kinds.proofs.float32_t.kind.Float32TKind.lower.Goals as goal
 
 pub invariant_of-result : goal.invariant_of-result
-invariant_of-result c = record { allowed = ap (λ (d : Float). proper (sub binary32 c.args.self.value d)) c.distance.ensures ∙ lowered_proper c.args.self.value c.args.self.allowed c.args.steps }
+invariant_of-result c = record {
+  allowed = ap (λ (d : Float). proper (sub binary32 c.args.self.value d))
+      c.distance.ensures ∙ lowered_proper c.args.self.value c.args.self.allowed c.args.steps;
+}
