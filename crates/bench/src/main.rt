@@ -9,7 +9,7 @@ mod session;
 mod timeline;
 
 use anyhow::anyhow;
-use days::BenchSensor;
+use bench_sensor::BenchSensor;
 use help::HELP;
 use kinds::{Float32T, IntegerT16, IntegerT32};
 use run::{Bench, Tally};

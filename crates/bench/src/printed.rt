@@ -1,5 +1,6 @@
 //! How octets, answers and channels are printed.
-use days::{Call, Channel, Reply};
+use bench_sensor::{Call, Reply};
+use days::Channel;
 use faults::Fault;
 use kinds::Kind;
 use std::fmt;

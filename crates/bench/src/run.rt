@@ -2,7 +2,8 @@
 use super::printed::{Answer, Fields};
 use super::session::{Section, Step};
 use super::timeline::Timeline;
-use days::{BenchSensor, Call, Channel, Entry, Reply};
+use bench_sensor::{BenchSensor, Call, Reply};
+use days::{Channel, Entry};
 use kinds::Kind;
 use std::{fmt, io};
 

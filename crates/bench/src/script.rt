@@ -2,8 +2,8 @@
 ghost use Rattle.std.specs.Prelude.{◌≡◌, IfOk, Some};
 ghost use Rattle.words.specs.Words.{octets_told};
 
+use bench_sensor::{Call, Line as CallLine};
 use channels::{Range, Reading};
-use days::{Call, Line as CallLine};
 use sensor::Setup;
 use std::alloc::{AllocError, Global};
 use std::str::{self, FromStr};

@@ -1,6 +1,6 @@
 //! A whole script: a section for each sensor, with the calls that it is taken through.
 use super::script::{Line, Problem, read_line};
-use days::Line as CallLine;
+use bench_sensor::Line as CallLine;
 use std::alloc::Global;
 use thiserror::Error;
 use words::KindName;

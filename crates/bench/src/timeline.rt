@@ -1,5 +1,6 @@
 //! The signals of each channel over the accepted samples of a day.
-use days::{Call, Channel, Entry, Reply};
+use bench_sensor::{Call, Reply};
+use days::{Channel, Entry};
 use kinds::Kind;
 use std::alloc::{AllocError, Global};
 use std::fmt;

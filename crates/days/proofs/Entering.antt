@@ -6,10 +6,11 @@ use Rattle.channels.specs.declared.row.Row.{Row}
 use Rattle.sensor.specs.declared.sensor.Sensor.{Sensor}
 use Rattle.sensor.specs.Calls.{Call}
 use Rattle.sensor.specs.Rules.{channels_of, entries, entry_of, next, with_signal}
-use Rattle.days.specs.declared.call.Channel.{Channel}
-use Rattle.days.specs.declared.call.Entry.{Entry}
-use Rattle.days.specs.declared.call.Line.{Line}
-use Rattle.days.specs.Told.{call_of, channel_of, channel_told, entry_told}
+use Rattle.bench_sensor.specs.declared.call.Line.{Line}
+use Rattle.bench_sensor.specs.Told.{call_of}
+use Rattle.days.specs.declared.entry.Channel.{Channel}
+use Rattle.days.specs.declared.entry.Entry.{Entry}
+use Rattle.days.specs.Entries.{channel_of, channel_told, entry_told}
 
 -- the channels of an entry
 channels_told : {V : Type 0} (rows : List (Row V)) → map channel_told (map channel_of rows) ≡ map with_signal rows

@@ -1,4 +1,1 @@
 mod Entering
-mod Keeping
-mod Replies
-mod Sizes

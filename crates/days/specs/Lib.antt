@@ -1,3 +1,2 @@
-pub mod Kept
+pub mod Entries
 pub mod Runs
-pub mod Told

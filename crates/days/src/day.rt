@@ -1,6 +1,7 @@
 // Calls made on a sensor one after the other, each with its reply and with every channel after it.
+ghost use Rattle.bench_sensor.specs.Told.{call_of, read_from, sensor_of, told};
+ghost use Rattle.days.specs.Entries.{channel_of, entry_told};
 ghost use Rattle.days.specs.Runs.{AfterAny};
-ghost use Rattle.days.specs.Told.{call_of, channel_of, entry_told, read_from, sensor_of, told};
 ghost use Rattle.laws.specs.Settings.{LastWrittenStands};
 ghost use Rattle.laws.specs.Stores.{StoresWithinCaptured};
 ghost use Rattle.laws.specs.Strikes.{ForeignCallsLeaveNoTrace};
@@ -9,8 +10,8 @@ ghost use Rattle.laws.specs.Turns.{TurnsApart};
 ghost use Rattle.sensor.specs.Rules.{channels_of, entries, entry_of, next};
 ghost use Rattle.std.specs.Prelude.{◌≡◌, map, replicate, vec_items, IfOk, OnOk};
 
-use super::bench::BenchSensor;
-use super::call::{Channel, Entry, Line, Reply};
+use super::entry::{Channel, Entry};
+use bench_sensor::{BenchSensor, Line, Reply};
 use kinds::Kind;
 use std::alloc::{AllocError, Global};
 

@@ -1,6 +1,6 @@
 -- Frames of requests and replies as they are on the wire.
-use Rattle.std.specs.Prelude.{◌≡◌, ℕ, List, [], ◌∷◌, length, Ok, Err}
-use Rattle.faults.specs.declared.Denial.TheVariants.{FrameLength, CheckOctet, Service, BufferTooShort}
+use Rattle.std.specs.Prelude.{◌≡◌, ℕ, List, [], ◌∷◌, ◌++◌, length, replicate, Ok, Err}
+use Rattle.faults.specs.declared.Denial.TheVariants.{FrameLength, CheckOctet, Service, BufferTooShort, NoFrame}
 use Rattle.faults.specs.Denials.{fault}
 use Rattle.isdu.specs.declared.Direction.TheVariants.{Read, Write}
 use Rattle.isdu.specs.Requests.{Asked}
@@ -38,6 +38,13 @@ pub record Examples : Type 0 where
       (write 24 0 (0x62 ∷ 0x6F ∷ 0x74 ∷ 0x74 ∷ 0x6C ∷ 0x69 ∷ 0x6E ∷ 0x67 ∷ 0x20 ∷ 0x66 ∷ 0x6F ∷ 0x75 ∷ 0x72 ∷ []))
       (0x11 ∷ 0x11 ∷ 0x18
       ∷ 0x62 ∷ 0x6F ∷ 0x74 ∷ 0x74 ∷ 0x6C ∷ 0x69 ∷ 0x6E ∷ 0x67 ∷ 0x20 ∷ 0x66 ∷ 0x6F ∷ 0x75 ∷ 0x72 ∷ 0x37 ∷ [])
+  -- the longest frame has 238 octets
+  pub longest :
+      Stands (write 24 0 (replicate 234 0x20)) (0x11 ∷ 0xEE ∷ 0x18 ∷ (replicate 234 0x20 ++ (0xE7 ∷ [])))
+  -- none has 239
+  pub too_long : composed (write 24 0 (replicate 235 0x20)) 239 ≡ Err (fault NoFrame)
+  pub reads_too_long :
+      decoded (0x11 ∷ 0xEF ∷ 0x18 ∷ (replicate 235 0x20 ++ (0xC6 ∷ []))) ≡ Err (fault FrameLength)
   -- no frame has 16 octets
   pub sixteen :
       decoded

@@ -36,7 +36,7 @@ pub fn between(x: f32, low: f32, high: f32) -> f32
     if low <= x { lesser(x, high) } else { low }
 }
 
-/// Up to 65,535 steps of 2^-10 are no rounded distance. It does nothing: its clause is what is proved.
+/// The distance of up to 65,535 steps of 2^-10 is exact. It does nothing: its clause is what is proved.
 pub fn distances_are_exact()
     ensures { Floats.ExactDistances }
 {}

@@ -6,7 +6,7 @@ ghost use Rattle.sensor.specs.Calls.{request, sample, set_up};
 ghost use Rattle.sensor.specs.Lent.{lent_reading, lent_setup};
 ghost use Rattle.sensor.specs.Rules.{blank, channels_of, checked, keypad_open, next, written};
 ghost use Rattle.sensor.specs.Samples.{reading_of};
-ghost use Rattle.sensor.specs.Setups.{fresh_device, lawful_range, set_up_checked};
+ghost use Rattle.sensor.specs.Setups.{ends_checked, fresh_device, lawful_range, range_checked, set_up_checked};
 ghost use Rattle.std.specs.Prelude.{◌≡◌, length, IfOk};
 
 use super::device::Device;
@@ -70,6 +70,29 @@ fn fresh<K: Kind>(setup: &Setup<&[u8]>, range: Range<K>) -> Device<K>
     }
 }
 
+// The range that a set-up brings: 17 where an end is no value.
+fn ends_checked<K: Kind>(setup: &Setup<&[u8]>) -> Result<Range<K>, Fault>
+    ensures { let range = (lent_setup setup.now).range in
+        result ≡ ends_checked K.meaning (K.meaning.read range.low) (K.meaning.read range.high) }
+{
+    let low = K::read(setup.range.low).ok_or(Denial::NoValue)?;
+    let high = K::read(setup.range.high).ok_or(Denial::NoValue)?;
+    Ok(Range { low, high })
+}
+
+// The device that a set-up with this range gives: 3 and 4.
+fn range_checked<K: Kind>(setup: &Setup<&[u8]>, range: Range<K>) -> Result<Device<K>, Fault>
+    ensures { result ≡ range_checked K.meaning (lent_setup setup.now) range }
+{
+    if !range_lawful(range) {
+        return Err(Fault::of(Denial::Range));
+    }
+    if !is_from_to(setup.terms.capture, 1, 64) {
+        return Err(Fault::of(Denial::CaptureLength));
+    }
+    Ok(fresh(setup, range))
+}
+
 #[tactic(auto, unfolding(crate::specs::Rules::checked))]
 impl<K: Kind> Sensor<K> {
     /// A sensor that is not set up: it denies samples, requests, keypad operations and warm restarts with 5.
@@ -100,16 +123,7 @@ impl<K: Kind> Sensor<K> {
         if !is_from_to(setup.channels, 1, 8) {
             return Err(Fault::of(Denial::ChannelCount));
         }
-        let low = K::read(setup.range.low).ok_or(Denial::NoValue)?;
-        let high = K::read(setup.range.high).ok_or(Denial::NoValue)?;
-        let range = Range { low, high };
-        if !range_lawful(range) {
-            return Err(Fault::of(Denial::Range));
-        }
-        if !is_from_to(setup.terms.capture, 1, 64) {
-            return Err(Fault::of(Denial::CaptureLength));
-        }
-        Ok(fresh(setup, range))
+        range_checked(setup, ends_checked(setup)?)
     }
 
     /// Sets the sensor up anew. It replaces all that the sensor held: each channel has SP1 at the low end and SP2 at

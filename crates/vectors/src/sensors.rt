@@ -1,6 +1,6 @@
 use crate::answers::{Answer, ask};
 use crate::replays::Mismatch;
-use days::lend_setup;
+use bench_sensor::lend_setup;
 use faults::{Denial, Fault};
 use kinds::{Float32T, IntegerT16, IntegerT32};
 use sensor::{Sensor, Setup};

@@ -2,9 +2,9 @@ use Rattle.std.proofs.Common.{◌≡◌, length, vec_items, ap, ◌∙◌}
 use Rattle.std.proofs.lemmas.List.{length-replicate}
 use Rattle.sensor.specs.Calls.{Call}
 use Rattle.sensor.specs.Rules.{next}
-use Rattle.days.specs.Told.{call_of, called, read_from}
+use Rattle.bench_sensor.specs.Told.{call_of, called, read_from}
+use Rattle.bench_sensor.proofs.Replies.{read_back}
 use Rattle.days.proofs.Entering.{channels_shown, next_by_name, written_back}
-use Rattle.days.proofs.Replies.{read_back}
 use Rattle.days.proofs.day.enter.Goals as goal
 
 pub returns-clause-entry : goal.returns-clause-entry

@@ -1,7 +1,8 @@
 use Rattle.std.proofs.Common.{rules, ◌+◌, ◌≤◌, length, ◌∷◌, ◌++◌, map, drop, vec_items, sym, ap, ◌∙◌, append-nil}
 use Rattle.std.proofs.lemmas.List.{at_drop_all, at_drop_more}
 use Rattle.sensor.specs.Rules.{entries}
-use Rattle.days.specs.Told.{call_of, entry_told, sensor_of}
+use Rattle.bench_sensor.specs.Told.{call_of, sensor_of}
+use Rattle.days.specs.Entries.{entry_told}
 use Rattle.days.proofs.Entering.{entered}
 use Rattle.days.proofs.day.enter_all.Goals as goal
 

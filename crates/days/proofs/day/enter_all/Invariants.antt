@@ -1,6 +1,7 @@
 use Rattle.std.proofs.Common.{◌≡◌, ◌++◌, map, drop, vec_items}
 use Rattle.sensor.specs.Rules.{entries}
-use Rattle.days.specs.Told.{call_of, entry_told, sensor_of}
+use Rattle.bench_sensor.specs.Told.{call_of, sensor_of}
+use Rattle.days.specs.Entries.{entry_told}
 use Rattle.days.proofs.day.enter_all.Given as goal
 
 -- what was entered so far, and what the calls that are left will give, is what all calls give

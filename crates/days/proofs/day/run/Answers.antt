@@ -4,8 +4,8 @@ use Rattle.laws.proofs.Stored.{stores_within_captured}
 use Rattle.laws.proofs.Strikes.{foreign_calls_leave_no_trace}
 use Rattle.laws.proofs.Taught.{taught_from_captured}
 use Rattle.laws.proofs.Turns.{turns_apart}
-use Rattle.days.specs.Told.{call_of}
-use Rattle.days.proofs.Sizes.{sensor_fits}
+use Rattle.bench_sensor.specs.Told.{call_of}
+use Rattle.bench_sensor.proofs.Sizes.{sensor_fits}
 use Rattle.days.proofs.day.run.Goals as goal
 
 pub end-sensor-requires : goal.end-sensor-requires

@@ -1,9 +1,9 @@
 use Rattle.std.proofs.Common.{sym, ap, ◌∙◌, subst}
 use Rattle.keypad.specs.Operations.{serial_of}
-use Rattle.days.specs.Kept.{TakesBack, due}
-use Rattle.days.proofs.Keeping.{closed_serial, closing, not_closed}
-use Rattle.days.proofs.Replies.{closed_told, unclosed_told}
-use Rattle.days.proofs.bench.BenchSensor.close.Goals as goal
+use Rattle.bench_sensor.specs.Kept.{TakesBack, due}
+use Rattle.bench_sensor.proofs.Keeping.{closed_serial, closing, not_closed}
+use Rattle.bench_sensor.proofs.Replies.{closed_told, unclosed_told}
+use Rattle.bench_sensor.proofs.bench.BenchSensor.close.Goals as goal
 
 pub invariant_of-self : goal.invariant_of-self
 invariant_of-self g c =

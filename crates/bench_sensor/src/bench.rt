@@ -1,5 +1,5 @@
 // A sensor on a bench: one call at a time, with no heap.
-ghost use Rattle.days.specs.Kept.{due};
+ghost use Rattle.bench_sensor.specs.Kept.{due};
 ghost use Rattle.std.specs.Prelude.{◌≡◌};
 
 use keypad::Ticket;

@@ -21,9 +21,9 @@ use Rattle.sensor.specs.Answers.{counted, plain}
 use Rattle.sensor.specs.Calls.{Call, sample, request, open_keypad, close_keypad, Act, accepted, denied}
 use Rattle.sensor.specs.Requests.{asked_of, negative, refused, response_room}
 use Rattle.sensor.specs.Rules.{carried, checked, checked_by, reply, reply_by, serial, written, written_by}
-use Rattle.days.specs.declared.call.Reply.{Reply}
-use Rattle.days.specs.declared.call.Reply.TheVariants.{Accepted, Ticket as TicketTold, Denied}
-use Rattle.days.specs.Told.{counted_told, numbered, plainly_told, read_from, refusal_length, responded_told}
+use Rattle.bench_sensor.specs.declared.call.Reply.{Reply}
+use Rattle.bench_sensor.specs.declared.call.Reply.TheVariants.{Accepted, Ticket as TicketTold, Denied}
+use Rattle.bench_sensor.specs.Told.{counted_told, numbered, plainly_told, read_from, refusal_length, responded_told}
 
 module _ {V : Type 0} (m : Meaning V) where
   -- ---- calls that write nothing

@@ -1,9 +1,9 @@
 // The calls of a sensor as data, and what they answer.
-ghost use Rattle.days.specs.Told.{call_of, called, octets_of, setup_of};
+ghost use Rattle.bench_sensor.specs.Told.{call_of, called, octets_of, setup_of};
 ghost use Rattle.sensor.specs.Lent.{lent_reading, lent_setup};
 ghost use Rattle.std.specs.Prelude.{◌≡◌};
 
-use channels::{Range, Reading, Row};
+use channels::{Range, Reading};
 use faults::Fault;
 use sensor::Setup;
 
@@ -46,24 +46,6 @@ pub enum Reply<T> {
     Ticket(u32),
     /// The fault, and the octets of the negative response; none where no response was written.
     Denied(Fault, T),
-}
-
-/// What a channel shows.
-#[derive(Clone, Copy)]
-pub struct Channel<K> {
-    /// Its settings and its state.
-    pub row: Row<K>,
-    /// The state, inverted where logic is 1; false in mode 0.
-    pub signal: bool,
-}
-
-/// A call's reply, and every channel after it.
-#[derive(Drop)]
-pub struct Entry<K> {
-    /// The reply, with the octets that were written.
-    pub reply: Reply<Vec<u8>>,
-    /// The channels that are present, channel 1 first; none on a blank sensor.
-    pub channels: Vec<Channel<K>>,
 }
 
 /// A set-up with the octets of its range lent.

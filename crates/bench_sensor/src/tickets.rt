@@ -1,5 +1,5 @@
 // Tickets of any serial number, which a spare keypad gives and takes back.
-ghost use Rattle.days.specs.Kept.{TakesBack};
+ghost use Rattle.bench_sensor.specs.Kept.{TakesBack};
 ghost use Rattle.keypad.specs.Operations.{serial_of, ticket_of};
 ghost use Rattle.std.specs.Prelude.{◌≡◌, Some, None};
 

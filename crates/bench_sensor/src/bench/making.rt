@@ -1,5 +1,5 @@
 // The calls of a sensor on a bench.
-ghost use Rattle.days.specs.Told.{called, counted_told, numbered, plainly_told, responded_told, sensor_of};
+ghost use Rattle.bench_sensor.specs.Told.{called, counted_told, numbered, plainly_told, responded_told, sensor_of};
 ghost use Rattle.octets.specs.Buffers.{over};
 ghost use Rattle.sensor.specs.Calls.{close_keypad, open_keypad, write_keypad};
 ghost use Rattle.sensor.specs.Rules.{blank as blank_sensor, channels_of, keypad_open, next, reply, written};

@@ -35,7 +35,7 @@ use Rattle.sensor.specs.Samples.{reading_of, sample_asked}
 use Rattle.sensor.specs.Setups.{ends_checked, fresh_device, lawful_range, range_checked, set_up_checked}
 use Rattle.sensor.proofs.Orders.{Writing, write_writes}
 use Rattle.sensor.proofs.Starting.{denied_next, set_up_is}
-use Rattle.days.specs.Kept.{due, due_from}
+use Rattle.bench_sensor.specs.Kept.{due, due_from}
 
 some_ticket : (t u : Ticket) → Some t ≡ Some u → t ≡ u
 some_ticket t u e = cc

@@ -1,9 +1,9 @@
 use Rattle.std.proofs.Common.{ℕ, ap}
 use Rattle.sensor.specs.Calls.{write_keypad}
 use Rattle.keypad.specs.Operations.{serial_of}
-use Rattle.days.proofs.Keeping.{stays}
-use Rattle.days.proofs.Replies.{plain_told}
-use Rattle.days.proofs.bench.BenchSensor.write.Goals as goal
+use Rattle.bench_sensor.proofs.Keeping.{stays}
+use Rattle.bench_sensor.proofs.Replies.{plain_told}
+use Rattle.bench_sensor.proofs.bench.BenchSensor.write.Goals as goal
 
 pub returns-clause-reply : goal.returns-clause-reply
 returns-clause-reply g c =

@@ -1,11 +1,11 @@
 use Rattle.std.proofs.Common.{length, sym, ap, rules}
 use Rattle.sensor.specs.Calls.{close_keypad, open_keypad, request, restart, sample, set_up, write_keypad}
 use Rattle.sensor.specs.Lent.{lent_reading, lent_setup}
-use Rattle.days.specs.Told.{called}
-use Rattle.days.proofs.Keeping.{stays}
-use Rattle.days.proofs.Replies.{buffer_stays, plain_told, request_told, sample_told}
-use Rattle.days.proofs.Sizes.{sensor_fits}
-use Rattle.days.proofs.bench.BenchSensor.make.Goals as goal
+use Rattle.bench_sensor.specs.Told.{called}
+use Rattle.bench_sensor.proofs.Keeping.{stays}
+use Rattle.bench_sensor.proofs.Replies.{buffer_stays, plain_told, request_told, sample_told}
+use Rattle.bench_sensor.proofs.Sizes.{sensor_fits}
+use Rattle.bench_sensor.proofs.bench.BenchSensor.make.Goals as goal
 
 -- ---- a set-up
 

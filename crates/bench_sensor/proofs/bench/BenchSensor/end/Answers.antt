@@ -1,8 +1,8 @@
 use Rattle.std.proofs.Common.{sym, ap, ◌∙◌}
 use Rattle.sensor.specs.Calls.{close_keypad}
 use Rattle.sensor.specs.Rules.{next, serial}
-use Rattle.days.proofs.Keeping.{closes_with_its_own, none_closed, takes_back}
-use Rattle.days.proofs.bench.BenchSensor.end.Goals as goal
+use Rattle.bench_sensor.proofs.Keeping.{closes_with_its_own, none_closed, takes_back}
+use Rattle.bench_sensor.proofs.bench.BenchSensor.end.Goals as goal
 
 pub unreachable-requires : goal.unreachable-requires
 unreachable-requires g c =

@@ -1,5 +1,5 @@
 -- What the calls and answers of the code stand for.
-use Rattle.std.specs.Prelude.{ℕ, Bool, List, length, map, take, Some, None, Ok, Err, Option, Result, vec_items}
+use Rattle.std.specs.Prelude.{ℕ, List, length, take, Some, None, Ok, Err, Option, Result, vec_items}
 use Rattle.std.specs.Borrow.{Bor}
 use Rattle.std.specs.Global.{Vec}
 use Rattle.faults.specs.declared.Fault.{Fault}
@@ -7,23 +7,18 @@ use Rattle.faults.specs.Denials.{entry}
 use Rattle.isdu.specs.declared.Direction.TheVariants.{Write}
 use Rattle.channels.specs.declared.reading.Reading.{Reading}
 use Rattle.channels.specs.declared.reading.Reading.TheVariants.{Value, Below, Above, NoData}
-use Rattle.channels.specs.declared.row.Row.{Row}
-use Rattle.channels.specs.Judging.{signal}
 use Rattle.sensor.specs.declared.sensor.Sensor.{Sensor}
 use Rattle.sensor.specs.declared.setup.Setup.{Setup}
 use Rattle.sensor.specs.Calls as rules
 use Rattle.sensor.specs.Lent.{lent_reading, lent_setup}
 use Rattle.sensor.specs.Requests.{negative}
-use Rattle.sensor.specs.Rules as rules_of
-use Rattle.days.specs.declared.bench.BenchSensor.{BenchSensor}
-use Rattle.days.specs.declared.call.Call.{Call}
-use Rattle.days.specs.declared.call.Call.TheVariants.{SetUp, Sample, Request, OpenKeypad, WriteKeypad, CloseKeypad}
-use Rattle.days.specs.declared.call.Call.TheVariants.{Restart}
-use Rattle.days.specs.declared.call.Channel.{Channel}
-use Rattle.days.specs.declared.call.Entry.{Entry}
-use Rattle.days.specs.declared.call.Line.{Line}
-use Rattle.days.specs.declared.call.Reply.{Reply}
-use Rattle.days.specs.declared.call.Reply.TheVariants.{Accepted, Ticket, Denied}
+use Rattle.bench_sensor.specs.declared.bench.BenchSensor.{BenchSensor}
+use Rattle.bench_sensor.specs.declared.call.Call.{Call}
+use Rattle.bench_sensor.specs.declared.call.Call.TheVariants.{SetUp, Sample, Request, OpenKeypad, WriteKeypad, CloseKeypad}
+use Rattle.bench_sensor.specs.declared.call.Call.TheVariants.{Restart}
+use Rattle.bench_sensor.specs.declared.call.Line.{Line}
+use Rattle.bench_sensor.specs.declared.call.Reply.{Reply}
+use Rattle.bench_sensor.specs.declared.call.Reply.TheVariants.{Accepted, Ticket, Denied}
 
 -- a call with lent octets, into a buffer of this length
 abbrev pub called : Call (Bor (List ℕ)) → ℕ → rules.Call
@@ -106,14 +101,3 @@ module _ {V : Type 0} where
   -- the sensor on a bench
   abbrev pub sensor_of : BenchSensor V → Sensor V
   sensor_of b = b.sensor
-
-  -- a row with its signal
-  abbrev pub channel_of : Row V → Channel V
-  channel_of r = record { row = r; signal = signal r }
-
-  abbrev pub channel_told : Channel V → Row V × Bool
-  channel_told c = (c.row, c.signal)
-
-  -- an entry: the reply, and what every channel shows after it
-  abbrev pub entry_told : Entry V → rules_of.Entry V
-  entry_told e = record { reply = told e.reply; channels = map channel_told (vec_items e.channels) }

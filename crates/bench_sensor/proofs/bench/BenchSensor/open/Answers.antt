@@ -1,9 +1,9 @@
 use Rattle.std.proofs.Common.{sym, ap, ◌∙◌}
-use Rattle.days.specs.Kept.{due}
-use Rattle.days.specs.declared.call.Reply.TheVariants.{Ticket}
-use Rattle.days.proofs.Keeping.{not_opened, opening}
-use Rattle.days.proofs.Replies.{opened_told, unopened_told}
-use Rattle.days.proofs.bench.BenchSensor.open.Goals as goal
+use Rattle.bench_sensor.specs.Kept.{due}
+use Rattle.bench_sensor.specs.declared.call.Reply.TheVariants.{Ticket}
+use Rattle.bench_sensor.proofs.Keeping.{not_opened, opening}
+use Rattle.bench_sensor.proofs.Replies.{opened_told, unopened_told}
+use Rattle.bench_sensor.proofs.bench.BenchSensor.open.Goals as goal
 
 pub keep-requires : goal.keep-requires
 keep-requires g c =

@@ -1,0 +1,3 @@
+mod Keeping
+pub mod Replies
+pub mod Sizes
