@@ -13,7 +13,7 @@ use bench_sensor::BenchSensor;
 use help::HELP;
 use kinds::{Float32T, IntegerT16, IntegerT32};
 use run::{Bench, Tally};
-use session::{Section, Session};
+use session::{Section, Session, Show, Trouble};
 use std::io::Read;
 use std::{env, io};
 use words::KindName;
@@ -39,28 +39,47 @@ fn read_task(rt: &HostRuntime) -> anyhow::Result<Task> {
 
 // A blank sensor is made where its kind, and with it its size, is known: in generic code it was tried, and that a
 // sensor of any kind fits into memory stayed open.
-fn run_section(bench: &mut Bench, section: &Section) -> io::Result<()> {
+fn run_section(bench: &mut Bench, section: &Section, shows: &[Show]) -> io::Result<()> {
+    let calls = section.calls.as_slice();
     match section.kind {
-        KindName::Int16 => bench.run(BenchSensor::<IntegerT16>::blank(), section),
-        KindName::Int32 => bench.run(BenchSensor::<IntegerT32>::blank(), section),
-        KindName::Float32 => bench.run(BenchSensor::<Float32T>::blank(), section),
+        KindName::Int16 => bench.run(BenchSensor::<IntegerT16>::blank(), calls, shows),
+        KindName::Int32 => bench.run(BenchSensor::<IntegerT32>::blank(), calls, shows),
+        KindName::Float32 => bench.run(BenchSensor::<Float32T>::blank(), calls, shows),
     }
 }
 
-fn run_session(rt: &HostRuntime, changes: bool) -> anyhow::Result<()> {
+// Each section with the shows that stand in it.
+fn run_sections(bench: &mut Bench, session: &Session) -> io::Result<()> {
+    let mut left = session.shows.as_slice();
+    for (number, section) in (1usize..).zip(&session.sections) {
+        let here = left
+            .iter()
+            .take_while(|show| show.section == number)
+            .count();
+        let (shows, later) = left.split_at_checked(here).unwrap_or((left, &[]));
+        run_section(bench, section, shows)?;
+        left = later;
+    }
+    Ok(())
+}
+
+// Reads the script into a session. The text is let go before the calls are made.
+fn read_session(rt: &HostRuntime, session: &mut Session) -> anyhow::Result<Result<(), Trouble>> {
     let heap = rt.alloc();
     let mut octets = Vec::new(heap);
     rt.stdin().read_to_end(&mut octets)?;
-    let mut session = Session::new(heap);
-    let read = session.read(heap, octets.as_slice());
+    Ok(session.read(heap, octets.as_slice()))
+}
+
+fn run_session(rt: &HostRuntime, changes: bool) -> anyhow::Result<()> {
+    let mut session = Session::new(rt.alloc());
+    let read = read_session(rt, &mut session)?;
     let mut bench = Bench {
         rt,
         changes,
         tally: Tally::default(),
     };
-    for section in &session.sections {
-        run_section(&mut bench, section)?;
-    }
+    run_sections(&mut bench, &session)?;
     if let Err(trouble) = read {
         // The line is told on standard error, with what was expected there.
         eprintln!(rt; "{trouble}")?;

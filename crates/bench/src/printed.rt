@@ -79,9 +79,10 @@ pub(crate) struct Answer<'a> {
 
 impl fmt::Display for Answer<'_> {
     fn fmt<W: fmt::Write>(&self, f: &mut fmt::Formatter<W>) -> fmt::Result {
-        write!(f, "{}: ", word(self.call))?;
+        f.write_str(word(self.call))?;
+        f.write_str(": ")?;
         match self.reply {
-            Reply::Accepted(octets) if octets.is_empty() => write!(f, "accepted"),
+            Reply::Accepted(octets) if octets.is_empty() => f.write_str("accepted"),
             Reply::Accepted(octets) => write!(f, "{}", spaced(octets.as_slice())),
             Reply::Ticket(serial) => write!(f, "ticket {serial}"),
             Reply::Denied(fault, response) => {

@@ -1,8 +1,8 @@
 //! Takes a sensor through the calls of a section and prints each answer.
 use super::printed::{Answer, Fields};
-use super::session::{Section, Step};
+use super::session::Show;
 use super::timeline::Timeline;
-use bench_sensor::{BenchSensor, Call, Reply};
+use bench_sensor::{BenchSensor, Call, Line, Reply};
 use days::{Channel, Entry};
 use kinds::Kind;
 use std::{fmt, io};
@@ -32,6 +32,10 @@ impl fmt::Display for Tally {
         write!(f, "{calls} calls: {accepted} accepted, {denied} denied")
     }
 }
+
+// How many calls go into one call of `days::run`. A log has an entry of every channel for each call, so it is kept
+// short; and the memory of a short one is soon taken again.
+const MOST_AT_ONCE: usize = 8;
 
 // Whether a call is a set-up that was accepted.
 fn begins_day(call: &Call<Vec<u8>>, reply: &Reply<Vec<u8>>) -> bool {
@@ -75,7 +79,7 @@ impl Bench<'_> {
     }
 
     // The signals over the samples of a day.
-    fn end_day<K: Kind>(&self, timeline: &Timeline<K>) -> io::Result<()> {
+    fn end_day(&self, timeline: &Timeline) -> io::Result<()> {
         match timeline.samples() {
             0 => return Ok(()),
             1 => println!(self.rt; "timeline of 1 sample")?,
@@ -88,12 +92,12 @@ impl Bench<'_> {
     }
 
     // A call with its entry, and what it changed.
-    fn tell<'e, K: Kind>(
+    fn tell<K: Kind>(
         &mut self,
         call: &Call<Vec<u8>>,
-        entry: &'e Entry<K>,
+        entry: &Entry<K>,
         before: &[Channel<K>],
-        timeline: &mut Timeline<'e, K>,
+        timeline: &mut Timeline,
     ) -> io::Result<()> {
         self.tally.count(&entry.reply);
         if self.changes && begins_day(call, &entry.reply) {
@@ -107,37 +111,67 @@ impl Bench<'_> {
         println!(self.rt; "{answer}")?;
         if self.changes {
             self.changed(before, entry.channels.as_slice())?;
-            timeline.take(call, entry)?;
+            timeline.take(call, &entry.reply, entry.channels.as_slice())?;
         }
         Ok(())
     }
 
-    /// Takes a sensor through a section. An error is want of memory, or that the output cannot be written. Where memory
-    /// for the run is wanting, nothing of it is printed.
-    pub(crate) fn run<K: Kind>(
+    // Makes calls in pieces, each by one call of `days::run`, and tells each piece before the next is made. Then the
+    // channels are those after the last call.
+    fn run_calls<K: Kind>(
         &mut self,
-        sensor: BenchSensor<K>,
-        section: &Section,
+        sensor: &mut BenchSensor<K>,
+        calls: &[Line],
+        channels: &mut Vec<Channel<K>>,
+        timeline: &mut Timeline,
     ) -> io::Result<()> {
-        let log = days::run(self.rt.alloc(), sensor, section.calls.as_slice())?;
-        let mut made = section.calls.iter().zip(&log);
-        let mut channels: &[Channel<K>] = &[];
-        let mut timeline = Timeline::new(self.rt.alloc());
-        for step in &section.steps {
-            match step {
-                Step::Show => self.show(channels)?,
-                Step::Call => {
-                    let Some((line, entry)) = made.next() else {
-                        break;
-                    };
-                    self.tell(&line.call, entry, channels, &mut timeline)?;
-                    channels = entry.channels.as_slice();
-                }
+        for piece in calls.chunks(MOST_AT_ONCE) {
+            let log = days::run(self.rt.alloc(), sensor, piece)?;
+            for (line, entry) in piece.iter().zip(log) {
+                self.tell(&line.call, &entry, channels.as_slice(), timeline)?;
+                *channels = entry.channels;
             }
         }
+        Ok(())
+    }
+
+    fn run_section<K: Kind>(
+        &mut self,
+        sensor: &mut BenchSensor<K>,
+        calls: &[Line],
+        shows: &[Show],
+    ) -> io::Result<()> {
+        let mut channels = Vec::new(self.rt.alloc());
+        let mut timeline = Timeline::new(self.rt.alloc());
+        let mut left = calls;
+        let mut made = 0usize;
+        for show in shows {
+            let (calls, rest) = left
+                .split_at_checked(show.calls.saturating_sub(made))
+                .unwrap_or((left, &[]));
+            self.run_calls(sensor, calls, &mut channels, &mut timeline)?;
+            self.show(channels.as_slice())?;
+            left = rest;
+            made = show.calls;
+        }
+        self.run_calls(sensor, left, &mut channels, &mut timeline)?;
         if self.changes {
             self.end_day(&timeline)?;
         }
         Ok(())
+    }
+
+    /// Takes a sensor through the calls of a section with its shows, and ends it. An error is want of memory, or that
+    /// the output cannot be written.
+    /// Where memory for a piece of its calls is wanting, neither that piece nor what comes after it is printed.
+    pub(crate) fn run<K: Kind>(
+        &mut self,
+        mut sensor: BenchSensor<K>,
+        calls: &[Line],
+        shows: &[Show],
+    ) -> io::Result<()> {
+        let told = self.run_section(&mut sensor, calls, shows);
+        let _sensor = sensor.end();
+        told
     }
 }

@@ -38,8 +38,6 @@ pub(crate) enum Problem {
 // The buffer of a call where the script names none.
 const USUAL_BUFFER: u16 = 16;
 
-const TEXT_FORM: &str = "text in UTF-8";
-
 const SENSOR_FORM: &str = "sensor int16, int32 or float32";
 
 const OCTETS_FORM: &str = "octets of two hexadecimal digits, or -";
@@ -288,9 +286,8 @@ fn by_word(heap: Global, word: &str, rest: &str) -> Result<Line, Problem> {
     }
 }
 
-/// What a line of a script asks for; the line is given by its octets, without the one that ends it.
-pub(crate) fn read_line(heap: Global, octets: &[u8]) -> Result<Line, Problem> {
-    let text = str::from_utf8(octets).map_err(|_| Problem::Expected(TEXT_FORM))?;
+/// What a line of a script asks for; the line is given without its end.
+pub(crate) fn read_line(heap: Global, text: &str) -> Result<Line, Problem> {
     let text = uncommented(text).trim();
     if text.is_empty() {
         return Ok(Line::Blank);

@@ -5,21 +5,20 @@ use std::alloc::Global;
 use thiserror::Error;
 use words::KindName;
 
-/// What a line of a section does.
-#[derive(Clone, Copy)]
-pub(crate) enum Step {
-    /// It makes the next call.
-    Call,
-    /// It shows the channels.
-    Show,
-}
-
 /// What stands from one `sensor` line to the next.
 #[derive(Drop)]
 pub(crate) struct Section {
     pub(crate) kind: KindName,
     pub(crate) calls: Vec<CallLine>,
-    pub(crate) steps: Vec<Step>,
+}
+
+/// Where a `show` stands.
+#[derive(Clone, Copy)]
+pub(crate) struct Show {
+    /// Its section, counted from 1.
+    pub(crate) section: usize,
+    /// How many calls of the section stand before it.
+    pub(crate) calls: usize,
 }
 
 /// The line that could not be read, counted from 1, and why.
@@ -34,15 +33,33 @@ pub(crate) struct Trouble {
 #[derive(Drop)]
 pub(crate) struct Session {
     pub(crate) sections: Vec<Section>,
+    /// In the order of the script.
+    pub(crate) shows: Vec<Show>,
 }
 
 const BYTE_ORDER_MARK: [u8; 3] = [0xEF, 0xBB, 0xBF];
+
+// The text up to the first octet that is no UTF-8, and the line in which that octet stands, if there is one. The whole
+// is made text at once, and not line by line, as that takes less time.
+fn text_of(octets: &[u8]) -> (&str, Option<usize>) {
+    let error = match str::from_utf8(octets) {
+        Ok(text) => return (text, None),
+        Err(error) => error,
+    };
+    let front = octets.get(..error.valid_up_to()).unwrap_or(&[]);
+    let ends = front.iter().filter(|octet| **octet == b'\n').count();
+    (
+        str::from_utf8(front).unwrap_or(""),
+        Some(ends.saturating_add(1)),
+    )
+}
 
 impl Session {
     /// A session of which nothing was read yet.
     pub(crate) fn new(heap: Global) -> Session {
         Session {
             sections: Vec::new(heap),
+            shows: Vec::new(heap),
         }
     }
 
@@ -50,7 +67,6 @@ impl Session {
         self.sections.push(Section {
             kind,
             calls: Vec::new(heap),
-            steps: Vec::new(heap),
         })?;
         Ok(())
     }
@@ -62,16 +78,16 @@ impl Session {
         ))
     }
 
-    fn take(&mut self, heap: Global, octets: &[u8]) -> Result<(), Problem> {
-        match read_line(heap, octets)? {
+    fn take(&mut self, heap: Global, text: &str) -> Result<(), Problem> {
+        match read_line(heap, text)? {
             Line::Blank => {}
             Line::Sensor(kind) => self.begin(heap, kind)?,
-            Line::Call(call) => {
-                let section = self.latest()?;
-                section.calls.push(call)?;
-                section.steps.push(Step::Call)?;
+            Line::Call(call) => self.latest()?.calls.push(call)?,
+            Line::Show => {
+                let calls = self.latest()?.calls.len();
+                let section = self.sections.len();
+                self.shows.push(Show { section, calls })?;
             }
-            Line::Show => self.latest()?.steps.push(Step::Show)?,
         }
         Ok(())
     }
@@ -79,12 +95,20 @@ impl Session {
     /// Reads a script up to its end, or to the first line that cannot be read; what stands before that line stays.
     /// A byte order mark at the front is passed over.
     pub(crate) fn read(&mut self, heap: Global, octets: &[u8]) -> Result<(), Trouble> {
-        let octets = octets.strip_prefix(&BYTE_ORDER_MARK).unwrap_or(octets);
-        // A CR before an LF is white space, and an empty line after the last LF asks for nothing.
-        for (line, octets) in (1..).zip(octets.split(|octet| *octet == b'\n')) {
-            self.take(heap, octets)
+        let (text, spoiled) = text_of(octets.strip_prefix(&BYTE_ORDER_MARK).unwrap_or(octets));
+        for (line, text) in (1..).zip(text.lines()) {
+            if spoiled == Some(line) {
+                break;
+            }
+            self.take(heap, text)
                 .map_err(|problem| Trouble { line, problem })?;
         }
-        Ok(())
+        match spoiled {
+            None => Ok(()),
+            Some(line) => Err(Trouble {
+                line,
+                problem: Problem::Expected("text in UTF-8"),
+            }),
+        }
     }
 }

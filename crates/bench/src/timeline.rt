@@ -1,22 +1,25 @@
 //! The signals of each channel over the accepted samples of a day.
 use bench_sensor::{Call, Reply};
-use days::{Channel, Entry};
+use days::Channel;
 use kinds::Kind;
 use std::alloc::{AllocError, Global};
 use std::fmt;
 
 /// The accepted samples of a day.
 #[derive(Drop)]
-pub(crate) struct Timeline<'a, K> {
-    // The channels after each sample.
-    samples: Vec<&'a [Channel<K>]>,
+pub(crate) struct Timeline {
+    // The signals after each sample, channel 1 first.
+    samples: Vec<[bool; 8]>,
+    // How many channels the sensor has; within a day this does not change.
+    channels: usize,
 }
 
-impl<'a, K: Kind> Timeline<'a, K> {
+impl Timeline {
     /// A day without a sample.
-    pub(crate) fn new(heap: Global) -> Timeline<'a, K> {
+    pub(crate) fn new(heap: Global) -> Timeline {
         Timeline {
             samples: Vec::new(heap),
+            channels: 0,
         }
     }
 
@@ -25,14 +28,20 @@ impl<'a, K: Kind> Timeline<'a, K> {
         self.samples.clear();
     }
 
-    /// Takes an entry, if it is of an accepted sample. An error is want of memory.
-    pub(crate) fn take(
+    /// Takes the channels after a call, if it is an accepted sample. An error is want of memory.
+    pub(crate) fn take<K: Kind>(
         &mut self,
         call: &Call<Vec<u8>>,
-        entry: &'a Entry<K>,
+        reply: &Reply<Vec<u8>>,
+        channels: &[Channel<K>],
     ) -> Result<(), AllocError> {
-        if let (Call::Sample(_), Reply::Accepted(_)) = (call, &entry.reply) {
-            self.samples.push(entry.channels.as_slice())?;
+        if let (Call::Sample(_), Reply::Accepted(_)) = (call, reply) {
+            let mut signals = [false; 8];
+            for (signal, channel) in signals.iter_mut().zip(channels) {
+                *signal = channel.signal;
+            }
+            self.samples.push(signals)?;
+            self.channels = channels.len();
         }
         Ok(())
     }
@@ -42,13 +51,13 @@ impl<'a, K: Kind> Timeline<'a, K> {
         self.samples.len()
     }
 
-    /// How many channels the sensor has; within a day this does not change.
+    /// How many channels the sensor has.
     pub(crate) fn channels(&self) -> usize {
-        self.samples.last().map_or(0, |channels| channels.len())
+        self.channels
     }
 
     /// The signals of a channel, counted from 0.
-    pub(crate) fn signals(&self, channel: usize) -> Signals<'_, K> {
+    pub(crate) fn signals(&self, channel: usize) -> Signals<'_> {
         Signals {
             samples: self.samples.as_slice(),
             channel,
@@ -58,17 +67,15 @@ impl<'a, K: Kind> Timeline<'a, K> {
 
 /// The signals of one channel: `#` for 1 and `_` for 0.
 #[derive(Clone, Copy)]
-pub(crate) struct Signals<'a, K> {
-    samples: &'a [&'a [Channel<K>]],
+pub(crate) struct Signals<'a> {
+    samples: &'a [[bool; 8]],
     channel: usize,
 }
 
-impl<K: Kind> fmt::Display for Signals<'_, K> {
+impl fmt::Display for Signals<'_> {
     fn fmt<W: fmt::Write>(&self, f: &mut fmt::Formatter<W>) -> fmt::Result {
-        for channels in self.samples {
-            let on = channels
-                .get(self.channel)
-                .is_some_and(|channel| channel.signal);
+        for signals in self.samples {
+            let on = signals.get(self.channel).copied().unwrap_or(false);
             write!(f, "{}", if on { '#' } else { '_' })?;
         }
         Ok(())

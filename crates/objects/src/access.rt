@@ -14,7 +14,7 @@ use isdu::{Direction, Request};
 use kinds::Kind;
 
 /// What a read shows.
-#[derive(Clone, Copy)]
+#[derive(Clone, Copy, PartialEq, Eq, Debug)]
 pub enum Shown {
     /// TeachSelect: the number of the selected channel, counted from 1.
     Selected,
@@ -24,7 +24,7 @@ pub enum Shown {
 }
 
 /// What a write to a part of a channel brings. `T` has the octets of a setpoint; values and codes are not checked yet.
-#[derive(Clone, Copy)]
+#[derive(Clone, Copy, PartialEq, Eq, Debug)]
 pub enum Content<T> {
     /// SP1, SP2.
     Setpoints(T, T),
@@ -41,7 +41,7 @@ pub enum Content<T> {
 }
 
 /// What a write brings.
-#[derive(Clone, Copy)]
+#[derive(Clone, Copy, PartialEq, Eq, Debug)]
 pub enum Written<T> {
     /// The code of a teach command.
     Command(u8),
@@ -52,7 +52,7 @@ pub enum Written<T> {
 }
 
 /// What a request asks for, once its access has passed every check.
-#[derive(Clone, Copy)]
+#[derive(Clone, Copy, PartialEq, Eq, Debug)]
 pub enum Access<T> {
     Read(Shown),
     Write(Written<T>),

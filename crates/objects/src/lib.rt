@@ -11,6 +11,7 @@ mod shown;
 mod value;
 
 pub use access::{Access, Content, Shown, Written, check_access, place_of};
+pub use object::Object;
 pub use part::Part;
 pub use shown::read_part;
 pub use value::{check_setpoint, write_content};

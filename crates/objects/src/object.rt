@@ -7,7 +7,7 @@ use channels::Table;
 use kinds::Kind;
 
 /// The object at an index.
-#[derive(Clone, Copy)]
+#[derive(Clone, Copy, PartialEq, Eq, Debug)]
 pub enum Object {
     /// Index 2: takes the code of a teach command.
     SystemCommand,
@@ -22,7 +22,7 @@ pub enum Object {
 }
 
 /// What is read or written at once: an object that has no parts, or a part of a channel.
-#[derive(Clone, Copy)]
+#[derive(Clone, Copy, PartialEq, Eq, Debug)]
 pub enum Item {
     SystemCommand,
     TeachSelect,

@@ -5,7 +5,7 @@ ghost use Rattle.std.specs.Prelude.{◌≡◌, ◌≤◌};
 use faults::Place;
 
 /// What of a channel is read or written at once: both setpoints or one, the whole configuration or a part of it.
-#[derive(Clone, Copy)]
+#[derive(Clone, Copy, PartialEq, Eq, Debug)]
 pub enum Part {
     /// SP1 then SP2: subindex 0 of the setpoints.
     Setpoints,

@@ -70,7 +70,8 @@ replies_from m s (c ∷ calls) = told (reply m s c) ∷ replies_from m (next m s
 abbrev replies : {V : Type 0} → Meaning V → List Call → List (Result Reply Refusal)
 replies m = replies_from m blank
 
--- a write of 1,000, which a read shows; then 10,000, the range's high end, is taken, and shown
+-- a write of 1,000, which a read shows; then 10,000, the range's high end, is taken, and shown; then 10,001 is above the
+-- range, and SP1 is as it was
 abbrev WritesSP1 : Type 0
 WritesSP1 =
     replies int16 (set_up bench
@@ -78,15 +79,19 @@ WritesSP1 =
     ∷ request (0xa4 ∷ 0x3c ∷ 0x01 ∷ 0x99 ∷ []) 16
     ∷ request (0x26 ∷ 0x3c ∷ 0x01 ∷ 0x27 ∷ 0x10 ∷ 0x2c ∷ []) 16
     ∷ request (0xa4 ∷ 0x3c ∷ 0x01 ∷ 0x99 ∷ []) 16
+    ∷ request (0x26 ∷ 0x3c ∷ 0x01 ∷ 0x27 ∷ 0x11 ∷ 0x2d ∷ []) 16
+    ∷ request (0xa4 ∷ 0x3c ∷ 0x01 ∷ 0x99 ∷ []) 16
     ∷ [])
     ≡ done []
     ∷ done (0x52 ∷ 0x52 ∷ [])
     ∷ done (0xd4 ∷ 0x03 ∷ 0xe8 ∷ 0x3f ∷ [])
     ∷ done (0x52 ∷ 0x52 ∷ [])
     ∷ done (0xd4 ∷ 0x27 ∷ 0x10 ∷ 0xe3 ∷ [])
+    ∷ Err (refusal 18 Layer.Value 60 1 (0x44 ∷ 0x80 ∷ 0x31 ∷ 0xf5 ∷ []))
+    ∷ done (0xd4 ∷ 0x27 ∷ 0x10 ∷ 0xe3 ∷ [])
     ∷ []
 
--- 10,001 is above the range, and SP1 is as it was
+-- 10,001 is above the range, and SP1 is the low end, as it was
 abbrev DeniesAboveTheRange : Type 0
 DeniesAboveTheRange =
     replies int16 (set_up bench
@@ -114,14 +119,16 @@ TeachesSP1 =
     ∷ done (0xd3 ∷ 0x01 ∷ 0xd2 ∷ [])
     ∷ []
 
--- Stop in Idle
+-- Stop in Idle, then an index that is not there
 abbrev DeniesStop : Type 0
 DeniesStop =
     replies int16 (set_up bench
     ∷ request (0x14 ∷ 0x02 ∷ 0x48 ∷ 0x5e ∷ []) 16
+    ∷ request (0x93 ∷ 0x63 ∷ 0xf0 ∷ []) 16
     ∷ [])
     ≡ done []
     ∷ Err (refusal 21 Layer.Teach 2 0 (0x44 ∷ 0x80 ∷ 0x36 ∷ 0xf2 ∷ []))
+    ∷ Err (refusal 11 Layer.Access 99 0 (0xc4 ∷ 0x80 ∷ 0x11 ∷ 0x55 ∷ []))
     ∷ []
 
 -- an index that is not there

@@ -1,15 +1,11 @@
-use Rattle.std.proofs.Common.{rules, ◌++◌, map}
+use Rattle.std.proofs.Common.{◌++◌, map}
 use Rattle.laws.proofs.Settings.{last_written_stands}
 use Rattle.laws.proofs.Stored.{stores_within_captured}
 use Rattle.laws.proofs.Strikes.{foreign_calls_leave_no_trace}
 use Rattle.laws.proofs.Taught.{taught_from_captured}
 use Rattle.laws.proofs.Turns.{turns_apart}
 use Rattle.bench_sensor.specs.Told.{call_of}
-use Rattle.bench_sensor.proofs.Sizes.{sensor_fits}
 use Rattle.days.proofs.day.run.Goals as goal
-
-pub end-sensor-requires : goal.end-sensor-requires
-end-sensor-requires g c = search (rules, sensor_fits)
 
 pub returns-clause-foreign_calls_leave_no_trace : goal.returns-clause-foreign_calls_leave_no_trace
 returns-clause-foreign_calls_leave_no_trace g c before =
