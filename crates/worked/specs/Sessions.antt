@@ -70,8 +70,8 @@ replies_from m s (c ∷ calls) = told (reply m s c) ∷ replies_from m (next m s
 abbrev replies : {V : Type 0} → Meaning V → List Call → List (Result Reply Refusal)
 replies m = replies_from m blank
 
--- a write of 1,000, which a read shows; then 10,000, the range's high end, is taken, and shown; then 10,001 is above the
--- range, and SP1 is as it was
+-- a write of 1,000, which a read shows; then 10,000, the range's high end, is taken, and shown; then 10,001 is above
+-- the range, and SP1 is as it was
 abbrev WritesSP1 : Type 0
 WritesSP1 =
     replies int16 (set_up bench

@@ -21,15 +21,16 @@ loop-line-preserved g c =
     let s = sensor_of c.loop-line.bench in
     let log = vec_items c.loop-line.log in
     let item = c.line-item.result in
+    let test = c.loop-line-test.true in
     let left = drop (i + 1) lines in (
       entered m s (sensor_of c.enter.new.bench) log (vec_items c.push.new.self) c.in_ok-entry.entry item left
           c.in_ok-push.ensures.items c.in_ok-entry.ensures.entry c.in_ok-entry.ensures.sensor
           ∙ ap (λ z. map entry_told log ++ entries m s (map call_of (z ∷ left))) c.line-item.is
-          ∙ sym (at_drop_more (λ z. map entry_told log ++ entries m s (map call_of z)) lines i item c.loop-line-test.true)
+          ∙ sym (at_drop_more (λ z. map entry_told log ++ entries m s (map call_of z)) lines i item test)
           ∙ c.loop-line.invariant.0,
       ap (λ t. after m t (map call_of left)) c.in_ok-entry.ensures.sensor
           ∙ ap (λ z. after m s (map call_of (z ∷ left))) c.line-item.is
-          ∙ sym (at_drop_more (λ z. after m s (map call_of z)) lines i item c.loop-line-test.true)
+          ∙ sym (at_drop_more (λ z. after m s (map call_of z)) lines i item test)
           ∙ c.loop-line.invariant.1,
     )
 
