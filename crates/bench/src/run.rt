@@ -162,8 +162,8 @@ impl Bench<'_> {
     }
 
     /// Takes a sensor through the calls of a section with its shows, and ends it. An error is want of memory, or that
-    /// the output cannot be written.
-    /// Where memory for a piece of its calls is wanting, neither that piece nor what comes after it is printed.
+    /// the output cannot be written. Where memory for a piece of its calls is wanting, neither that piece nor what
+    /// comes after it is printed.
     pub(crate) fn run<K: Kind>(
         &mut self,
         mut sensor: BenchSensor<K>,

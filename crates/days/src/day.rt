@@ -1,14 +1,14 @@
 // Calls made on a sensor one after the other, each with its reply and with every channel after it.
 ghost use Rattle.bench_sensor.specs.Told.{call_of, read_from, sensor_of, told};
 ghost use Rattle.days.specs.Entries.{channel_of, entry_told};
-ghost use Rattle.days.specs.Runs.{AfterAny};
+ghost use Rattle.days.specs.Runs.{AfterAny, Reaches};
 ghost use Rattle.laws.specs.Settings.{LastWrittenStands};
 ghost use Rattle.laws.specs.Stores.{StoresWithinCaptured};
 ghost use Rattle.laws.specs.Strikes.{ForeignCallsLeaveNoTrace};
 ghost use Rattle.laws.specs.Taught.{TaughtFromCaptured};
 ghost use Rattle.laws.specs.Turns.{TurnsApart};
 ghost use Rattle.sensor.specs.Rules.{after, channels_of, entries, entry_of, next};
-ghost use Rattle.std.specs.Prelude.{◌≡◌, map, replicate, take, vec_items, IfOk, OnOk};
+ghost use Rattle.std.specs.Prelude.{◌≡◌, map, replicate, take, vec_items, ◌∷◌, [], IfOk, OnErr, OnOk};
 
 use super::entry::{Channel, Entry};
 use bench_sensor::{BenchSensor, Line, Reply};
@@ -69,6 +69,8 @@ fn enter<K: Kind>(
     ensures entry { IfOk result
         (λ entry. entry_told entry ≡ entry_of K.meaning (sensor_of bench.old) (call_of line.now)) }
     ensures sensor { OnOk result (sensor_of bench.new ≡ next K.meaning (sensor_of bench.old) (call_of line.now)) }
+    ensures part { OnErr result
+        (Reaches K.meaning (sensor_of bench.old) (call_of line.now ∷ []) (sensor_of bench.new)) }
 {
     let mut out = buffer(heap, line.room)?;
     let reply = bench.make(line.lend(), out.as_mut_slice());
@@ -89,6 +91,8 @@ fn enter_all<K: Kind>(
         (λ log. map entry_told (vec_items log)
         ≡ entries K.meaning (sensor_of bench.old) (map call_of lines.now)) }
     ensures sensor { OnOk result (sensor_of bench.new ≡ after K.meaning (sensor_of bench.old) (map call_of lines.now)) }
+    ensures part { OnErr result
+        (Reaches K.meaning (sensor_of bench.old) (map call_of lines.now) (sensor_of bench.new)) }
 {
     let mut log = Vec::with_capacity(heap, lines.len())?;
     for line in lines {
@@ -101,11 +105,11 @@ fn enter_all<K: Kind>(
 /// Makes calls on a sensor one after the other, set-ups among them, and tells each reply with every channel after it.
 /// Each call is lent a buffer of its own, of octets 0. The sensor stays on the bench, with the ticket of an operation
 /// that is open at the end: calls that are made on it later go on from there, as if they stood in the same list.
-/// An error is want of memory for what is told; the calls after it are not made.
+/// An error is want of memory for what is told: some of the first calls are made, and the calls after them are not.
 ///
-/// The first two clauses equate what is told and the sensor afterwards with the rules. The others are the laws of every
-/// list of calls that a sensor takes since it was blank, whatever calls came before these: they speak of the rules
-/// alone, so they hold whether there is memory for a log or not.
+/// The first two clauses equate what is told and the sensor afterwards with the rules; `part` says what the sensor is
+/// on an error. The others are the laws of every list of calls that a sensor takes since it was blank, whatever calls
+/// came before these: they speak of the rules alone, so they hold whether there is memory for a log or not.
 pub fn run<K: Kind>(
     heap: Global,
     bench: &mut BenchSensor<K>,
@@ -115,6 +119,8 @@ pub fn run<K: Kind>(
         (λ log. map entry_told (vec_items log)
         ≡ entries K.meaning (sensor_of bench.old) (map call_of lines.now)) }
     ensures sensor { OnOk result (sensor_of bench.new ≡ after K.meaning (sensor_of bench.old) (map call_of lines.now)) }
+    ensures part { OnErr result
+        (Reaches K.meaning (sensor_of bench.old) (map call_of lines.now) (sensor_of bench.new)) }
     ensures foreign_calls_leave_no_trace { AfterAny (ForeignCallsLeaveNoTrace K.meaning) (map call_of lines.now) }
     ensures stores_within_captured { AfterAny (StoresWithinCaptured K.meaning) (map call_of lines.now) }
     ensures taught_from_captured { AfterAny (TaughtFromCaptured K.meaning) (map call_of lines.now) }

@@ -3,7 +3,7 @@ use Rattle.std.proofs.lemmas.List.{at_drop_all, at_drop_more}
 use Rattle.sensor.specs.Rules.{after, entries}
 use Rattle.bench_sensor.specs.Told.{call_of, sensor_of}
 use Rattle.days.specs.Entries.{entry_told}
-use Rattle.days.proofs.Entering.{entered}
+use Rattle.days.proofs.Entering.{carried, entered, on_err, reaches_here, untold}
 use Rattle.days.proofs.day.enter_all.Goals as goal
 
 pub loop-line-init : goal.loop-line-init
@@ -11,6 +11,7 @@ loop-line-init g c = (
   ap (λ z. map entry_told z ++ entries g.K.Kind.meaning c.args.bench.now.sensor (map call_of c.args.lines.now))
       c.in_ok-log.ensures.items,
   refl,
+  λ t r. r,
 )
 
 pub loop-line-preserved : goal.loop-line-preserved
@@ -32,7 +33,47 @@ loop-line-preserved g c =
           ∙ ap (λ z. after m s (map call_of (z ∷ left))) c.line-item.is
           ∙ sym (at_drop_more (λ z. after m s (map call_of z)) lines i item test)
           ∙ c.loop-line.invariant.1,
+      carried m s (sensor_of c.enter.new.bench) (sensor_of c.args.bench.now) (call_of item) (map call_of left)
+          (map call_of (drop i lines)) (map call_of lines) c.in_ok-entry.ensures.sensor
+          (ap (λ z. map call_of (z ∷ left)) c.line-item.is ∙ sym (at_drop_more (map call_of) lines i item test))
+          c.loop-line.invariant.2,
     )
+
+pub returns-in_err-log-clause-part : goal.returns-in_err-log-clause-part
+returns-in_err-log-clause-part g c =
+    on_err c.from_residual.result _
+    (reaches_here g.K.Kind.meaning (sensor_of c.args.bench.now) (map call_of c.args.lines.now))
+
+pub returns-in_err-entry-clause-part : goal.returns-in_err-entry-clause-part
+returns-in_err-entry-clause-part g c =
+    let m = g.K.Kind.meaning in
+    let lines = c.args.lines.now in
+    let i = c.loop-line.line-index in
+    let s = sensor_of c.loop-line.bench in
+    let u = sensor_of c.enter.new.bench in
+    let item = c.line-item.result in
+    let left = drop (i + 1) lines in
+    let all = ap (λ z. map call_of (z ∷ left)) c.line-item.is
+    ∙ sym (at_drop_more (map call_of) lines i item c.loop-line-test.true) in
+    let led = untold m s (sensor_of c.args.bench.now) u (call_of item) (map call_of left) (map call_of (drop i lines))
+    (map call_of lines) all c.loop-line.invariant.2 c.in_err-entry.ensures.part in
+    on_err c.from_residual-in_err-entry.result _ led
+
+pub returns-in_err-push-clause-part : goal.returns-in_err-push-clause-part
+returns-in_err-push-clause-part g c =
+    let m = g.K.Kind.meaning in
+    let lines = c.args.lines.now in
+    let i = c.loop-line.line-index in
+    let s = sensor_of c.loop-line.bench in
+    let u = sensor_of c.enter.new.bench in
+    let item = c.line-item.result in
+    let left = drop (i + 1) lines in
+    let all = ap (λ z. map call_of (z ∷ left)) c.line-item.is
+    ∙ sym (at_drop_more (map call_of) lines i item c.loop-line-test.true) in
+    let led = carried m s u (sensor_of c.args.bench.now) (call_of item) (map call_of left) (map call_of (drop i lines))
+    (map call_of lines) c.in_ok-entry.ensures.sensor all c.loop-line.invariant.2 u
+    (reaches_here m u (map call_of left)) in
+    on_err c.from_residual-in_err-push.result _ led
 
 pub returns-clause-log : goal.returns-clause-log
 returns-clause-log g c =
